@@ -55,7 +55,7 @@ function objectOf(text) {
 
 async function asked(target, how, seconds) {
   try {
-    const answer = await fetch(target, {
+    const answer = await fetch(session.addressOf(target), {
       ...how,
       headers: { ...session.headers(), ...how.headers },
       cache: "no-store",

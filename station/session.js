@@ -4,6 +4,14 @@
 const SECONDS = 20;
 let header = null; // of a log-in on this page; before it the browser has one of its own
 
+/**
+ * The address of a path of this server, without the log-in that the page's own address may have:
+ * a browser makes no request to an address with one.
+ */
+export function addressOf(path) {
+  return new URL(path, location.origin).href;
+}
+
 /** The headers by which a request says who asks. */
 export function headers() {
   return header === null ? {} : { Authorization: header };
@@ -17,7 +25,8 @@ export function isLoggedOut(status) {
 async function statusOf(path, authorization) {
   const how = { cache: "no-store", signal: AbortSignal.timeout(SECONDS * 1000) };
   try {
-    return (await fetch(path, { ...how, headers: { Authorization: authorization } })).status;
+    const headers = { Authorization: authorization };
+    return (await fetch(addressOf(path), { ...how, headers })).status;
   } catch {
     return 0;
   }
@@ -26,7 +35,7 @@ async function statusOf(path, authorization) {
 /** Lets the browser know a log-in that is right, so that the page can be loaded anew. */
 function remember(user, password) {
   const request = new XMLHttpRequest();
-  request.open("GET", "/station/log-in", true, user, password);
+  request.open("GET", addressOf("/station/log-in"), true, user, password);
   request.send();
 }
 

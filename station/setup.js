@@ -2,6 +2,7 @@
 // (docs/station.md).
 import * as desk from "./desk.js";
 import { around, filled, isName, MOST_BOARDS } from "./names.js";
+import { isLoggedOut } from "./session.js";
 import { TEXTS } from "./words.js";
 
 export const USUAL = {
@@ -93,11 +94,19 @@ function alike({ machines, codes }) {
   )[0];
 }
 
+/** Why a file isn't had, by the status of the answer: the name of its text. 0 is no answer. */
+export function whyNot(status) {
+  return status === 404 ? "missing"
+    : status === 0 ? "noAnswer"
+    : isLoggedOut(status) ? "notAllowed"
+                          : "notRead";
+}
+
 /** Reads the set-up: {setup}, or {fault} with the name of its text and what that text names. */
 export async function read() {
   const { status, told, since } = await desk.file("setup.json");
   if (status !== 200) {
-    return { status, fault: "missing" };
+    return { status, fault: whyNot(status) };
   }
   if (Object.keys(told).length === 0) {
     return { status, fault: "json" };

@@ -58,6 +58,9 @@ export const TEXTS = {
   setup: {
     wanting: "Es fehlt eine brauchbare Einrichtung: /etc/tracedesk/station/setup.json. {fault}",
     missing: "Die Datei fehlt.",
+    noAnswer: "Der Server hat nicht geantwortet. Laden Sie die Seite neu.",
+    notAllowed: "Diese Anmeldung darf sie nicht lesen.",
+    notRead: "Sie kann nicht gelesen werden: Status {status}.",
     json: "Die Datei ist kein JSON-Objekt.",
     machines: "Sie muss Maschinen aufzählen, jede als {\"machine\": \"M1\"}.",
     member: "Ihr Eintrag {member} ist nicht so, wie docs/station.md es sagt.",

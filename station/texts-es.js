@@ -55,6 +55,9 @@ export const TEXTS = {
   setup: {
     wanting: "No hay una configuración válida: /etc/tracedesk/station/setup.json. {fault}",
     missing: "Falta el archivo.",
+    noAnswer: "El servidor no respondió. Cargue la página de nuevo.",
+    notAllowed: "Este usuario no puede leerla.",
+    notRead: "No se puede leer: estado {status}.",
     json: "El archivo no es un objeto JSON.",
     machines: "Debe listar máquinas, cada una como {\"machine\": \"M1\"}.",
     member: "Su miembro {member} no es como dice docs/station.md.",

@@ -41,6 +41,9 @@ export const TEXTS = {
   setup: {
     wanting: "没有可用的设置：/etc/tracedesk/station/setup.json。{fault}",
     missing: "文件不存在。",
+    noAnswer: "服务器没有回答。请重新加载页面。",
+    notAllowed: "此登录无权读取该文件。",
+    notRead: "无法读取该文件：状态 {status}。",
     json: "文件不是 JSON 对象。",
     machines: "必须列出机器，每台写作 {\"machine\": \"M1\"}。",
     member: "其中 {member} 不符合 docs/station.md 的说明。",

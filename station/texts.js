@@ -57,6 +57,9 @@ export const TEXTS = {
   setup: {
     wanting: "There is no usable set-up: /etc/tracedesk/station/setup.json. {fault}",
     missing: "The file is missing.",
+    noAnswer: "The server gave no answer. Load the page again.",
+    notAllowed: "This log-in may not read it.",
+    notRead: "It can't be read: status {status}.",
     json: "The file is no JSON object.",
     machines: "It has to list machines, each as {\"machine\": \"M1\"}.",
     member: "Its member {member} is not as docs/station.md says.",

@@ -1,5 +1,6 @@
 // The texts of the page in its language: a plant's own ones, and ours for each that it doesn't
 // have.
+import { addressOf } from "./session.js";
 import { TEXTS as ENGLISH } from "./texts.js";
 
 /** The languages of the package, each by its own name. */
@@ -42,7 +43,7 @@ async function ownTexts() {
 /** The language that the set-up names, or none. */
 async function languageOfSetUp() {
   try {
-    const answer = await fetch("/station/setup.json", { cache: "no-store" });
+    const answer = await fetch(addressOf("/station/setup.json"), { cache: "no-store" });
     return (await answer.json()).language;
   } catch {
     return undefined;

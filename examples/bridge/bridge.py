@@ -1,73 +1,29 @@
-"""Takes messages as they come: each gives messages in the spool, is passed over, or is a dead
+"""Takes records as they come: each gives messages in the spool, is passed over, or is a dead
 letter.
 """
 from __future__ import annotations
 
 import collections
-import decimal
 import json
-import re
 import time
 import traceback
-from typing import Any, Iterable, NamedTuple, Optional
+from typing import Any, NamedTuple, Optional
 
-import mapping
+from filters import Filter, NotMapped, Record
+from fronts import Front, json_records
 from keeping import Dead, Kept
 from tracedesk import records
 from tracedesk.console import patiently, tell
-from values import NotMapped
 
 NEWS = 60.0  # seconds between two lines on standard error
-MOST_NAMES, LONGEST_NAME = 1000, 100  # of messages that are passed over
+MOST_NAMES, LONGEST_NAME = 1000, 100  # of records that are passed over
 
 
 class Came(NamedTuple):
-    """What came of a message: lines, and the names in the spool."""
+    """What came of a record: lines, and the names in the spool."""
 
     told: list[str]
     names: list[str]
-
-
-def no_number(text: str) -> None:
-    raise ValueError(f"{text} is no number of JSON")
-
-
-def each_once(pairs: Iterable[tuple[str, Any]]) -> dict[str, Any]:
-    """An object. One that has a member twice says two things, and nobody knows which."""
-    found: dict[str, Any] = {}
-    for name, value in pairs:
-        if name in found:
-            raise ValueError(f"{name!r:.100} is there twice")
-        found[name] = value
-    return found
-
-
-JSON = json.JSONDecoder(
-    parse_float=decimal.Decimal, parse_constant=no_number, object_pairs_hook=each_once
-)
-GAP = re.compile(r"[\s,]*")
-
-
-def messages_in(data: bytes) -> list[tuple[bytes, Any, Optional[str]]]:
-    """The messages of a line or of a body, each with its bytes; one that is no JSON is none, with
-    why.
-    """
-    try:
-        text = data.decode(json.detect_encoding(data), "surrogatepass")
-        told = JSON.decode(text)
-        if not isinstance(told, list):
-            return [(data.replace(b"\n", b" "), told, None)]
-        found: list[tuple[bytes, Any, Optional[str]]] = []
-        at = text.index("[") + 1
-        for message in told:
-            gap = GAP.match(text, at)
-            begun = gap.end() if gap else at
-            _, at = JSON.raw_decode(text, begun)
-            its = text[begun:at].encode(errors="surrogatepass").replace(b"\n", b" ")
-            found.append((its, message, None))
-        return found
-    except (ValueError, RecursionError, ArithmeticError) as fault:
-        return [(data, None, f"it is no JSON: {fault}")]
 
 
 def shown(name: str) -> str:
@@ -79,33 +35,44 @@ def shown(name: str) -> str:
     )
 
 
-class Bridge:
-    """Takes messages as they come. `kept` and `dead` are where they go."""
+def name_of(record: Any) -> str:
+    """By what a record that is passed over is counted."""
+    name = record.get("MessageName") if isinstance(record, dict) else None
+    return shown(name) if isinstance(name, str) else "a record without MessageName"
 
-    def __init__(self, table: mapping.Table, kept: Kept, dead: Dead) -> None:
-        self.table, self.kept, self.dead = table, kept, dead
+
+class Bridge:
+    """Takes records as they come. `kept` and `dead` are where they go; `front` makes records of
+    what comes.
+    """
+
+    def __init__(
+        self, table: Filter, kept: Kept, dead: Dead, front: Front = json_records, form: str = ""
+    ) -> None:
+        self.table, self.kept, self.dead, self.front, self.form = table, kept, dead, front, form
         self.counts: collections.Counter[str] = collections.Counter()
         self.passed: collections.Counter[str] = collections.Counter()
         self.news, self.told = time.monotonic() + NEWS, ""
 
-    def take_one(self, text: bytes, message: Any, fault: Optional[str]) -> Came:
+    def take_one(self, record: Record, source: str) -> Came:
         try:
-            if fault:
-                raise NotMapped(fault)
-            made = self.table.made(message)
+            if record.fault:
+                raise NotMapped(record.fault)
+            made = self.table.made(record, source)
         except Exception as why:  # an error of this program must not keep what comes behind
-            is_known = isinstance(why, NotMapped)
+            guess = why.guess if isinstance(why, NotMapped) else {}
             reason = (
                 str(why)
-                if is_known
+                if isinstance(why, NotMapped)
                 else "".join(traceback.format_exception_only(type(why), why)).strip()
             )
-            self.record(text, message, reason)
-            name = self.dead.put(text, reason)
+            reason = f"{source}: {reason}" if source else reason
+            self.record(record.text, guess, reason)
+            name = self.dead.put(record.text, reason)
             self.counts["dead"] += 1
             return Came([f"dead {name}"], [])
         if not made:
-            name = shown(self.table.name_of(message))
+            name = name_of(record.value)
             has_place = name in self.passed or len(self.passed) < MOST_NAMES
             self.passed[name if has_place else "others"] += 1
             return Came([f"passed {name}"], [])
@@ -114,23 +81,25 @@ class Bridge:
         self.counts["there already"] += sum(not is_new for _, is_new in put)
         return Came(["kept " + " ".join(name for name, _ in put)], [name for name, _ in put])
 
-    def record(self, text: bytes, message: Any, reason: str) -> None:
+    def record(self, text: bytes, guess: dict[str, Any], reason: str) -> None:
         """Keeps a record of a dead letter that is a report of work, or may be one, as of a refused
         report.
         """
-        told = {} if message is None else self.table.report_of(message)
-        if told is None or self.dead.has(text):
+        if not records.is_recorded(guess) or self.dead.has(text):
             return
-        kept = {**records.kept_of(text, len(text)), "Message": told}
+        kept = {**records.kept_of(text, len(text)), "Message": guess}
         answer = {"Answer": "NotMapped", "Fault": reason[:500]}
         by = f"tracedesk-bridge {self.kept.spool.name}"
         self.kept.spool.keep_made(
             *records.record("refused", by, records.utc(), Answer=answer, **kept)
         )
 
-    def take(self, data: bytes) -> Came:
-        """Takes a line or a body, and comes back once what it gives is on disk."""
-        came = [patiently(lambda: self.take_one(*it)) for it in messages_in(data)]
+    def take(self, data: bytes, source: str = "", front: Optional[Front] = None) -> Came:
+        """Takes a line, a file or a body of a source, and comes back once what it gives is on
+        disk.
+        """
+        found = (front or self.front)(data)
+        came = [patiently(lambda: self.take_one(it, source)) for it in found]
         self.counts["read"] += len(came) or 1
         if not came:
             self.passed["[]"] += 1

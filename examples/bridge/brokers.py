@@ -37,7 +37,11 @@ def unpacked(message: Any) -> bytes:
     body = message.body
     if not isinstance(body, (str, bytes, memoryview, bytearray)):
         return json.dumps(plain(body)).encode()
-    data = body.encode(errors="surrogatepass") if isinstance(body, str) else bytes(body)
+    return unzipped(body.encode(errors="surrogatepass") if isinstance(body, str) else bytes(body))
+
+
+def unzipped(data: bytes) -> bytes:
+    """What gzip has packed, whole; else the bytes as they are."""
     text, rest = b"", data
     with contextlib.suppress(zlib.error):
         while rest[:2] == b"\x1f\x8b" and len(text) < LONGEST:
@@ -128,7 +132,8 @@ class Queue:
             with contextlib.suppress(self.proton.Timeout):
                 if len(open_ones) < self.asked.window:
                     message = receiver.receive(timeout=0.02 if open_ones else LOOK)
-                    open_ones.append(self.bridge.take(unpacked(message)).names)
+                    came = self.bridge.take(unpacked(message), self.asked.queue)
+                    open_ones.append(came.names)
                 else:
                     link.wait(lambda: self.is_answered(open_ones[0]), timeout=LOOK)
 

@@ -1,4 +1,4 @@
-"""What a bridge keeps: the messages in its spool, and those of which it can make none."""
+"""What a bridge keeps: the messages in its spool, and the records of which it can make none."""
 from __future__ import annotations
 
 import contextlib
@@ -85,7 +85,7 @@ class Kept:
 
 
 class Dead:
-    """A folder of messages as they came, each with its reason. One that comes again has its place
+    """A folder of records as they came, each with its reason. One that comes again has its place
     already. It has at most so many:
     then whoever brings one more waits until somebody has looked at them."""
 

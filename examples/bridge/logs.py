@@ -18,7 +18,8 @@ import time
 import zlib
 from typing import IO, Any, BinaryIO, Callable, Dict, Optional
 
-from bridge import Bridge
+import fronts
+from bridge import Bridge, Came
 from keeping import digest
 from tracedesk import Spool, SpoolError, console, disk
 
@@ -44,10 +45,22 @@ Told = Dict[str, Any]  # what is kept of a file
 
 def take_lines(bridge: Bridge, stream: BinaryIO) -> None:
     """Takes a stream, and says of each line what came of it."""
+    heading, number = b"", 0
     for line in disk.lines_of(stream):
         whole = line if isinstance(line, bytes) else b"".join(line)
-        for told in bridge.take(whole.strip()).told:
-            console.say(told)
+        number += 1
+        if bridge.form == "csv" and not heading:
+            heading = whole
+        else:
+            for told in take_line(bridge, whole, "", heading, number).told:
+                console.say(told)
+
+
+def take_line(bridge: Bridge, line: bytes, source: str, heading: bytes, number: int) -> Came:
+    """Takes a line; a row of CSV below its heading."""
+    if bridge.form == "csv":
+        return bridge.take(line, source, lambda data: fronts.csv_line(data, heading, number))
+    return bridge.take(line.strip(), source)
 
 
 # --- A file
@@ -62,6 +75,7 @@ class Opened:
         self.file, self.id = open_log(path)
         self.at, self.head, self.last, self.rest, self.since = 0, b"", b"", b"", time.monotonic()
         self.taken = b""  # what was taken of a line that has no end
+        self.counted = 0, 0  # so many bytes have so many lines
         self.packed: Optional[
             Told
         ] = None  # by what the packed file is known again, once it is read
@@ -115,6 +129,22 @@ class Opened:
                 self.grown(got[len(whole) :])
                 return whole
             size *= 2
+
+    def heading(self) -> bytes:
+        """The first line."""
+        return os.pread(self.file.fileno(), PIECE, 0).partition(b"\n")[0]
+
+    def lines_before(self) -> int:
+        """How many lines were read."""
+        if self.counted[0] > self.at:
+            self.counted = 0, 0
+        while self.counted[0] < self.at:
+            most = min(PIECE, self.at - self.counted[0])
+            piece = os.pread(self.file.fileno(), most, self.counted[0])
+            if not piece:
+                break
+            self.counted = self.counted[0] + len(piece), self.counted[1] + piece.count(b"\n")
+        return self.counted[1]
 
     def grown(self, rest: bytes) -> None:
         if rest != self.rest:
@@ -357,10 +387,16 @@ class Following:
             return None
         return it
 
-    def take_data(self, data: bytes) -> None:
+    def take_data(self, file: Opened, data: bytes) -> None:
+        """Takes lines of a file that stand where it was read to."""
+        is_csv, at = self.bridge.form == "csv", file.at
+        number = file.lines_before() if is_csv else 0
+        heading = file.heading() if is_csv else b""
         for line in data.split(b"\n"):
-            if line.strip():
-                self.bridge.take(line.strip())
+            number += 1
+            if line.strip() and not (is_csv and at == 0):
+                take_line(self.bridge, line, self.path.name, heading, number)
+            at += len(line) + 1
             self.bridge.look()
 
     def look(self) -> bool:
@@ -376,14 +412,14 @@ class Following:
         for it, lines in zip(self.files, pieces):
             is_old = it is not self.files[-1]
             while lines:
-                self.take_data(lines)
+                self.take_data(it, lines)
                 it.read(lines)
                 self.keep()
                 lines = it.next_lines() if is_old else b""
             if is_old and it.rest != it.taken:
                 if time.monotonic() - it.since < UNFINISHED:
                     break
-                self.take_data(it.rest)
+                self.take_data(it, it.rest)
                 it.taken = it.rest
         for it in self.files[:-1]:
             if time.monotonic() - it.since >= STAYS and it.rest == it.taken:
@@ -439,4 +475,4 @@ def take_file(
                 break
             time.sleep(LOOK)
     for it in following.files:
-        following.take_data(it.rest)  # and once more by who reads on from that place
+        following.take_data(it, it.rest)  # and once more by who reads on from that place

@@ -291,3 +291,13 @@ def test_whether_it_may_send_is_asked_again(site: Site) -> None:
         it.does("A/OPEN", "K-1", holds=("OPENED",))
         whole(site, it, 1)
     print("not known, then known without a reload")
+
+
+def test_an_address_with_a_log_in_is_a_station_that_works(site: Site) -> None:
+    """As a kiosk's bookmark has it: the set-up is read, and a scan is answered."""
+    with Operator(site) as it:
+        log_in = site.url.replace("https://", f"https://{it.user}:{it.user}@")
+        it.page.get(f"{log_in}/station/?station={it.name}")
+        it.ready()
+        it.scan("S/M1/1", "K-1")
+        it.verdict(("accepted", "refused"))

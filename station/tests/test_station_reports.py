@@ -10,7 +10,6 @@ import pytest
 from station_operator import Operator
 from station_plant import all_states, asks
 from station_site import ROOT, Site, wait_for
-from tracedesk_dev import layout
 from tracedesk_dev.trial import Difference
 
 pytestmark = pytest.mark.browser
@@ -196,8 +195,8 @@ def test_the_operators_sheet_is_one_page(site: Site) -> None:
         pytest.skip("there is no pandoc here: apt-get install pandoc")
     page = ROOT / "docs/station-operator.md"
     text = page.read_text()
-    made_of: Any = layout.html
-    (site.room / "made.html").write_text(made_of(page))
+    with open(site.room / "made.html", "wb") as made_page:
+        subprocess.run([ROOT / "packaging/html", page], stdout=made_page, check=True)
     with Operator(site) as it:
         names = it.script(
             "return import('/station/words.js').then((it) => [it.TEXTS.actions,"

@@ -18,7 +18,7 @@ from typing import Any, Callable, Iterator, Optional, Tuple
 from unittest import mock
 
 from outside_desk import Wrong
-from outside_world import REAL, Said, Task, World
+from outside_world import REAL, Said, Table, Task, World
 from tracedesk import answers, console, desk, forms, sender, sent, spool
 
 BRIDGE = pathlib.Path(__file__).resolve().parents[3] / "examples/bridge/tracedesk-bridge"
@@ -196,6 +196,7 @@ def modelled(bridge: Any) -> Iterator[None]:
         patch(forms, "LONGEST_MESSAGE", 2000)
         if bridge:
             patch(bridge.logs, "BEFORE", BEFORE)
+            patch(bridge, "Filter", Table)
         patch(fcntl, "flock", lambda handle, how: World.now.flock(handle, how))
         patch(os, "fsync", lambda handle: World.now.fsync(handle))
         for name in ("write", "pwrite", "pread", "rename", "open"):

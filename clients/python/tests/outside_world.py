@@ -6,6 +6,7 @@ run says. Time passes only where all of them sleep.
 """
 from __future__ import annotations
 
+import datetime
 import errno
 import fcntl
 import json
@@ -19,22 +20,23 @@ import types
 from typing import Any, Callable, ClassVar, Iterable, Optional
 
 from outside_desk import DeskModel, Wrong
-from tracedesk import forms, send, spool
+from tracedesk import forms, send, spool, words
 
-TABLE = {
-    "Name": "/kind",
-    "Messages": {
-        "part": [
-            {
-                "Word": "PartDefined",
-                "UniqueID": "{/uid}",
-                "Source": "{/from}",
-                "TimeStamp": "2026-03-02T06:00:00Z",
-                "Members": {"PartNumber": "{/uid}"},
-            }
-        ]
-    },
-}
+
+class Table:
+    """In place of jq, which is a process of its own: a record of this kind gives a message."""
+
+    def __init__(self, path: pathlib.Path, zone: Optional[str] = None) -> None:
+        self.at = datetime.datetime(2026, 3, 2, 6, tzinfo=datetime.timezone.utc)
+
+    def made(self, record: Any, source: str = "") -> list[forms.Message]:
+        told = record.value
+        if told["kind"] != "part":
+            return []
+        part = words.PartDefined(told["uid"])
+        return [part.message(told["from"], unique_id=told["uid"], at=self.at)]
+
+
 REAL = types.SimpleNamespace(
     flock=fcntl.flock,
     time=time.time,
@@ -170,7 +172,6 @@ class World:
         World.now = self
         self.out, self.log = self.room / "out", self.room / "said.log"
         self.out.mkdir()
-        (self.room / "table").write_text(json.dumps(TABLE))
         self.spool = spool.Spool(self.room / "spool")
         self.desk = DeskModel()
 

@@ -5,7 +5,7 @@ import dataclasses
 import datetime
 import json
 import pathlib
-from typing import Any, cast
+from typing import Any, Callable, cast
 
 import pytest
 import tracedesk
@@ -14,21 +14,7 @@ from tracedesk import forms, words
 
 API = pathlib.Path(__file__).resolve().parents[3] / "docs/api"
 TABLE = json.loads((API / "messages.json").read_text(encoding="utf-8"))
-SCHEMA = schemas.Schema(json.loads((API / "message.schema.json").read_text(encoding="utf-8")))
-
-
-def from_body(kind: Any, body: dict[str, Any]) -> Any:
-    """The object of a body as a message has it."""
-    rows = {"rows": words.SheetRow, "counts": words.CountRow}
-    given = {}
-    for name, attribute, _ in kind.MEMBERS:
-        if name in body:
-            given[attribute] = (
-                [from_body(rows[attribute], it) for it in body[name]]
-                if attribute in rows
-                else body[name]
-            )
-    return kind(**given)
+SCHEMA = schemas.Messages(json.loads((API / "message.schema.json").read_text(encoding="utf-8")))
 
 
 def examples() -> list[tuple[Any, Any]]:
@@ -45,7 +31,7 @@ def test_seventeen_in_the_order_of_the_table() -> None:
 def test_each_example_is_made() -> None:
     for kind, example in examples():
         at = datetime.datetime.fromisoformat(example["TimeStamp"].replace("Z", "+00:00"))
-        made = from_body(kind, example["MessageBody"]).message(
+        made = kind.of_body(example["MessageBody"]).message(
             example["Source"], unique_id=example["UniqueID"], at=at
         )
         assert json.loads(made.text) == example
@@ -75,7 +61,7 @@ VALUES: tuple[Any, ...] = (
 def test_what_the_schema_refuses_is_not_made() -> None:
     tried = 0
     for kind, example in examples():
-        for name, attribute, form in kind.MEMBERS:
+        for name, attribute, form in (*kind.MEMBERS, *kind.BESIDE):
             for value in VALUES:
                 body = {**example["MessageBody"], name: value}
                 if (
@@ -85,10 +71,14 @@ def test_what_the_schema_refuses_is_not_made() -> None:
                 ):
                     continue
                 is_good = SCHEMA.fault({**example, "MessageBody": body}) is None
+                if value is None and name in [it[0] for it in kind.BESIDE]:
+                    is_good = True  # to the package it isn't there
+                if value == ["C 1"] and name == "MachineReels":
+                    is_good = False  # the example has three pieces
                 if value == 1.0 and isinstance(value, float):
                     is_good = False  # to a schema it is 1; a desk refuses it
                 try:
-                    from_body(kind, body).message("S")
+                    kind.of_body(body).message("S")
                     assert is_good, f"{kind.WORD} was made with {name} {value!r:.50}"
                 except forms.OutOfRange as fault:
                     assert (
@@ -146,3 +136,28 @@ def test_a_message_that_is_too_long_is_not_made() -> None:
 def test_all_names_are_there() -> None:
     for name in tracedesk.__all__:
         assert hasattr(tracedesk, name), name
+
+
+def test_what_the_desk_skips_is_typed_and_others_have_no_place() -> None:
+    """The reel of each piece by the machine, and the attributes of a reel."""
+    installed = words.MaterialsInstalled("M1", "B", ["C1", "C2"], ["K-1", None])
+    assert installed.body()["MachineReels"] == ["K-1", None]
+    received = words.ReelReceived("K", "P", "L", "1", 5, date_code="2614", order="7\u00fc")
+    assert received.body()["DateCode"] == "2614" and received.body()["Order"] == "7\u00fc"
+    assert "Supplier" not in received.body()
+    wrong: tuple[tuple[str, Callable[[], object]], ...] = (
+        ("MachineReels", lambda: words.MaterialsInstalled("M1", "B", ["C1"], ["K-1", None])),
+        ("MachineReels", lambda: words.MaterialsInstalled("M1", "B", ["C1"], ["K 1 "])),
+        ("DateCode", lambda: words.ReelReceived("K", "P", "L", "1", 5, date_code="26\t14")),
+        ("Machine", lambda: words.WorkStarted.of_body({"Board": "B"})),
+        ("Bord", lambda: words.WorkStarted.of_body({"Machine": "M1", "Board": "B", "Bord": "C"})),
+        (
+            "Slot",
+            lambda: words.SheetDefined.of_body({"Product": "P", "Machine": "M", "Rows": [{}]}),
+        ),
+        ("MessageBody", lambda: words.ClockSet.of_body([])),
+    )
+    for member, make in wrong:
+        with pytest.raises(forms.OutOfRange) as caught:
+            make()
+        assert caught.value.member == member

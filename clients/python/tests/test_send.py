@@ -194,6 +194,35 @@ def test_check_and_validate(lab: Lab) -> None:
         assert part in looked.stdout
 
 
+def test_validate_warns_of_members_that_nobody_reads(tmp_path: pathlib.Path) -> None:
+    """A mistyped one passes, since a desk takes it too; it is named, with what may be meant."""
+    body = {"Machine": "M1", "Board": "B", "Designators": ["C1"]}
+    told = {
+        "MessageName": "TraceDesk.MaterialsInstalled",
+        "UniqueID": "a",
+        "Source": "M1",
+        "TimeStamp": "2026-03-02T07:00:00Z",
+    }
+    bodies: list[dict[str, Any]] = [
+        {**body, "MachineReels": ["K-1"]},
+        {**body, "MachineReal": ["K-1"]},
+        {**body, "MachineReels": ["K-1", "K-2"]},
+    ]
+    lines = [json.dumps({**told, "MessageBody": it}) for it in bodies]
+    words = [sys.executable, str(SENDER), "--validate", "-"]
+    given = "\n".join(lines[:2])
+    done = subprocess.run(words, input=given, capture_output=True, text=True, timeout=PATIENCE)
+    assert (done.returncode, done.stdout.splitlines()) == (
+        0,
+        [
+            "line 2: warning: MessageBody: MachineReal: nobody reads it; is MachineReels meant?",
+            "2 messages, 0 of them wrong",
+        ],
+    )
+    done = subprocess.run(words, input=lines[2], capture_output=True, text=True, timeout=PATIENCE)
+    assert (done.returncode, "2 elements for 1 pieces" in done.stdout) == (1, True)
+
+
 def test_patience_ends(lab: Lab) -> None:
     lab.send("--put", "-", given=line("u1"))
     lab.server.script = [(502, {}, {})] * 1000

@@ -263,7 +263,11 @@ UNREADABLE = {
     "NaN": work("u1", Board="N").replace(b'"N"', b"NaN"),
     "no object": b"[]",
     "a lone surrogate": work("u1", Board="SN-\ud83d"),
+    "deep": work("u1", Board="SN-4", More="m").replace(b'"m"', b"[" * 985 + b"]" * 985),
+    "too deep": work("u1", Board="SN-5", More="m").replace(b'"m"', b"[" * 9_000 + b"]" * 9_000),
+    "deep, and cut": work("u1", Board="SN-6", More="m").replace(b'"m"', b"[" * 985),
 }
+ODD_BOARDS = ("Latin-1", "a raw tab", "a lone surrogate", "deep", "too deep")
 
 
 @pytest.mark.parametrize("what", UNREADABLE)
@@ -278,7 +282,7 @@ def test_a_report_that_nobody_can_read_is_recorded(what: str, tmp_path: pathlib.
     assert base64.b64decode(made["Raw"]) == text
     assert isinstance(made["Message"], dict)
     board = made["Message"].get("MessageBody", {}).get("Board", "")
-    assert board.startswith("SN") == (what in ("Latin-1", "a raw tab", "a lone surrogate"))
+    assert board.startswith("SN") == (what in ODD_BOARDS)
     assert it.is_report("000000000001")
     with pytest.raises(disk.SpoolError):
         it.again(["000000000001"])

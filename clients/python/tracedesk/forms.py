@@ -8,7 +8,7 @@ import datetime
 import json
 import re
 import uuid
-from typing import Any, ClassVar, Dict, Optional, Protocol, Sequence, Tuple, Type
+from typing import Any, ClassVar, Dict, Optional, Protocol, Sequence, Tuple, Type, TypeVar
 
 EARLIEST = datetime.datetime(1970, 1, 1, tzinfo=datetime.timezone.utc)
 LATEST = datetime.datetime(9999, 12, 30, 22, tzinfo=datetime.timezone.utc)
@@ -128,13 +128,32 @@ class Where:
         return self.form.checked(member, value)
 
 
+@dataclasses.dataclass(frozen=True)
+class ForEach:
+    """A list with a value, or None, for each element of another list."""
+
+    other: str
+    form: Form
+
+    def checked(self, member: str, value: Any) -> Any:
+        if isinstance(value, (str, bytes, dict)) or not isinstance(value, Sequence):
+            raise OutOfRange(member, f"{value!r:.100} is no list")
+        return tuple(None if it is None else self.form.checked(member, it) for it in value)
+
+
 Members = Tuple[Tuple[str, str, Form], ...]
 
 
+Its = TypeVar("Its", bound="Part")
+
+
 class Part:
-    """A body, or a row of one: its members by name, by attribute, and their forms."""
+    """A body, or a row of one: its members by name, by attribute, and their forms; and those beside
+    them, which the desk skips and others read.
+    """
 
     MEMBERS: ClassVar[Members] = ()
+    BESIDE: ClassVar[Members] = ()
 
     def __post_init__(self) -> None:
         for name, attribute, form in self.MEMBERS:
@@ -144,11 +163,43 @@ class Part:
             else:
                 given = form.checked(name, given)
             object.__setattr__(self, attribute, given)
+        for name, attribute, form in self.BESIDE:
+            given = getattr(self, attribute)
+            if given is not None:
+                object.__setattr__(self, attribute, form.checked(name, given))
+                count = len(getattr(self, form.other)) if isinstance(form, ForEach) else 0
+                if isinstance(form, ForEach) and len(given) != count:
+                    raise OutOfRange(name, f"it has {len(given)} elements for {count} pieces")
+
+    @classmethod
+    def of_body(cls: Type[Its], body: Any) -> Its:
+        """What a body says; OutOfRange where it lacks a member, or has one that nobody reads."""
+        if not isinstance(body, dict):
+            raise OutOfRange("MessageBody", f"{body!r:.100} is no object")
+        its = (*cls.MEMBERS, *cls.BESIDE)
+        for name in body:
+            if name not in [it[0] for it in its]:
+                raise OutOfRange(str(name)[:100], f"{cls.__name__} has no such member")
+        given: Dict[str, Any] = {}
+        for name, attribute, form in its:
+            if name in body:
+                given[attribute] = of_json(form, body[name])
+            elif (name, attribute, form) in cls.MEMBERS and not isinstance(form, Where):
+                raise OutOfRange(name, "it is not there")
+        return cls(**given)
 
     def body(self) -> Dict[str, Any]:
         """The members as they stand in a message."""
-        found = {name: getattr(self, attribute) for name, attribute, _ in self.MEMBERS}
+        its = (*self.MEMBERS, *self.BESIDE)
+        found = {name: getattr(self, attribute) for name, attribute, _ in its}
         return {name: shown(it) for name, it in found.items() if it is not None}
+
+
+def of_json(form: Form, value: Any) -> Any:
+    """A member as its constructor takes it: rows are objects."""
+    if isinstance(form, ListOf) and isinstance(form.form, Row) and isinstance(value, list):
+        return [form.form.kind.of_body(it) for it in value]
+    return value
 
 
 def shown(value: Any) -> Any:

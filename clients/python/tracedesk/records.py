@@ -18,6 +18,9 @@ from typing import Any, Dict, Optional, Tuple
 from . import forms, words
 
 MOST_LISTED = 1_000  # elements of a list of a message that is too long
+MOST_DEEP = 32  # lists and objects in one another; those of a message are 5 at most
+# a string of JSON, also one that is cut off, and what begins or ends a list or an object
+TOKEN = re.compile(rb'"[^"\\]*(?:\\.[^"\\]*)*(?:"|\\?\Z)|[\[\]{}]', re.DOTALL)
 
 
 def utc(seconds: Optional[float] = None) -> str:
@@ -64,18 +67,40 @@ def is_recorded(told: Dict[str, Any]) -> bool:
     return is_report(told) or told["MessageName"] in words.RECORDED
 
 
+def shallow(text: bytes) -> bytes:
+    """A text of JSON with null in the place of each list and object that is too deep: so whatever
+    reads it ends alike, and doesn't end with what calls it.
+    """
+    kept, since, depth = [], 0, 0
+    for found in TOKEN.finditer(text):
+        if found[0] in b"[{":
+            depth += 1
+            if depth == MOST_DEEP + 1:
+                kept += [text[since : found.start()], b"null"]
+        elif found[0] in b"]}":
+            if depth == MOST_DEEP + 1:
+                since = found.end()
+            depth -= 1
+    return b"".join([*kept, text[since:] if depth <= MOST_DEEP else b""])
+
+
+def number(digits: str) -> Any:
+    """A whole number of JSON; one that is longer than any of a message is a text."""
+    return int(digits) if len(digits) < 20 else digits
+
+
 def as_read(text: bytes) -> Dict[str, Any]:
     """What can be read of a message, also of one that is no strict JSON: odd bytes, raw tabs, NaN
     and long numbers become texts.
     """
     try:
         told = json.loads(
-            text.decode("utf-8", "replace"),
+            shallow(text).decode("utf-8", "replace"),
             strict=False,
             parse_constant=str,
-            parse_int=lambda digits: int(digits) if len(digits) < 20 else digits,
+            parse_int=number,
         )
-    except (ValueError, RecursionError):
+    except ValueError:
         return {}
     return told if isinstance(told, dict) else {}
 

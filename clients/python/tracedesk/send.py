@@ -12,17 +12,18 @@ usage: tracedesk-send [--url URL] [WHO] [HOW] MESSAGES ANSWERS
 
 examples:
   tracedesk-send first.jsonl first.answers
-  tracedesk-send --url https://desk.plant --ca server.crt --user m1 --password-file m1.password
-  --spool m1 --follow /m1/out machine | tracedesk-send --url https://desk.plant --ca server.crt
-  --cert m2.crt --key m2.key --spool m2 --follow -
+  tracedesk-send --url https://desk.plant --ca server.crt --user m1 --password-file m1.password \\
+      --spool m1 --follow /m1/out
+  machine | tracedesk-send --url https://desk.plant --ca server.crt --cert m2.crt --key m2.key \\
+      --spool m2 --follow -
   tracedesk-send --spool m1 --put mended.jsonl
   tracedesk-send --spool m1 --again 000000000007
   tracedesk-send --spool m1 --again 2026-03-02T06:00Z
-  tracedesk-send --spool m1 --stay --untraced /var/lib/tracedesk/untraced --status
-  /var/lib/tracedesk/status
+  tracedesk-send --spool m1 --stay --untraced /var/lib/tracedesk/untraced \\
+      --status /var/lib/tracedesk/status
   tracedesk-send --spool m1 --follow /m1/out --interlock /usr/local/bin/permit --machine M1
-  tracedesk-send --url https://desk.plant --ca server.crt --user m1 --password-file m1.password
-  --check
+  tracedesk-send --url https://desk.plant --ca server.crt --user m1 --password-file m1.password \\
+      --check
   tracedesk-send --validate first.jsonl
 
 With two files it posts the lines of MESSAGES, each with the UniqueID in it, and adds the desk's
@@ -64,7 +65,8 @@ time; any number may put messages in.
 --scans          where the proxy lists what others scanned: a folder, or
                  https://desk.plant/line/scans (with an https --url that of it)
 --check          says whether the desk, its certificate, the clock and the log-in are right
---validate       looks at messages, a line each, and sends nothing: '-' is standard input
+--validate       looks at messages, a line each, and sends nothing: '-' is standard input. Members
+                 that nobody reads are warned of
 --keep-days N    how long the spool keeps sent messages for --again TIME (7): longer than from one
                  copy of the desk to the next
 --keep-mib N     how much disk they may take (512). The oldest go first, and standard error says so

@@ -49,6 +49,30 @@ def faults(line: bytes) -> Iterator[str]:
         yield "MessageBody: it is no JSON object"
 
 
+def warnings(line: bytes) -> Iterator[str]:
+    """The members that nobody reads, of a message that is right."""
+    told = json.loads(line)
+    kind = next(it for it in words.MESSAGES if words.PREFIX + it.WORD == told["MessageName"])
+    envelope = ["MessageName", "UniqueID", "Source", "TimeStamp", "MessageBody"]
+    yield from unread("", told, envelope)
+    yield from unread_of_body("MessageBody: ", kind, told["MessageBody"])
+
+
+def unread_of_body(place: str, kind: Type[forms.Part], body: Dict[str, Any]) -> Iterator[str]:
+    yield from unread(place, body, [name for name, _, _ in (*kind.MEMBERS, *kind.BESIDE)])
+    for name, _, form in kind.MEMBERS:
+        if isinstance(form, forms.ListOf) and isinstance(form.form, forms.Row):
+            for number, row in enumerate(body[name]):
+                yield from unread_of_body(f"{place}{name}[{number}]: ", form.form.kind, row)
+
+
+def unread(place: str, told: Dict[str, Any], known: List[str]) -> Iterator[str]:
+    for it in told:
+        if it not in known:
+            near = difflib.get_close_matches(it, [one for one in known if one not in told], 1, 0.6)
+            yield f"{place}{it:.100}: nobody reads it" + (f"; is {near[0]} meant?" if near else "")
+
+
 def nearest(name: str, names: List[str]) -> str:
     return difflib.get_close_matches(name, names, 1, 0.0)[0]
 
@@ -106,6 +130,13 @@ def of_body(kind: Type[forms.Part], body: Dict[str, Any]) -> Iterator[str]:
                 yield from (f"{name}[{number}]: {it}" for it in found)
         else:
             yield from of_form(name, form, body[name])
+    for name, _, form in kind.BESIDE:
+        if name in body:
+            yield from of_form(name, form, body[name])
+            its = body.get(wire(kind, form.other)) if isinstance(form, forms.ForEach) else None
+            if isinstance(its, list) and isinstance(body[name], list):
+                if len(its) != len(body[name]):
+                    yield f"{name}: it has {len(body[name])} elements for {len(its)} pieces"
 
 
 class Anything:
@@ -120,13 +151,14 @@ def wire(kind: Type[forms.Part], attribute: str) -> str:
 
 
 def run(file: str, say: Callable[[str], None]) -> int:
-    """Says of each line of a file what is wrong with it."""
+    """Says of each line of a file what is wrong with it, or which members nobody reads."""
     with open(sys.stdin.fileno() if file == "-" else file, "rb", closefd=file != "-") as stream:
         lines = [(number, it.rstrip(b"\r\n")) for number, it in enumerate(stream, 1) if it.strip()]
     wrong = 0
     for number, line in lines:
         found = list(faults(line))
         wrong += bool(found)
+        found = found or [f"warning: {it}" for it in warnings(line)]
         for it in found:
             say(f"line {number}: {it}")
     say(f"{len(lines)} messages, {wrong} of them wrong")

@@ -9,15 +9,20 @@ from . import forms
 PREFIX = "TraceDesk."
 NAME = forms.Text(
     64,
-    r"^[!-~]([ -~]*[!-~])?$",
+    "^[!-~]([ -~]*[!-~])?$",
     "a text of 1 to 64 bytes of printable ASCII and spaces, with no space at its ends",
 )
 DESIGNATOR = forms.Text(
-    16, r"^[A-Za-z0-9_.-]+$", "a text of 1 to 16 ASCII letters, digits, _, . and -"
+    16, "^[A-Za-z0-9_.-]+$", "a text of 1 to 16 ASCII letters, digits, _, . and -"
 )
 QUANTITY = forms.Whole(1, 10000000)
 LEVEL = forms.OneOf(("1", "2", "2a", "3", "4", "5", "5a", "6"))
 LABEL = forms.Whole(1, 525600)
+ATTRIBUTE = forms.Text(
+    200,
+    "^[^\\u0000-\\u001f\\u007f]+$",
+    "a text of 1 to 200 characters, none of which is a control character",
+)
 COUNTED = forms.Whole(0, 10000000)
 
 
@@ -107,6 +112,10 @@ class ReelReceived(forms.Command):
     level: str
     quantity: int
     label_minutes: Optional[int] = None
+    date_code: Optional[str] = None
+    supplier: Optional[str] = None
+    maker_part: Optional[str] = None
+    order: Optional[str] = None
     WORD: ClassVar[str] = "ReelReceived"
     MEMBERS: ClassVar[forms.Members] = (
         ("Reel", "reel", NAME),
@@ -115,6 +124,12 @@ class ReelReceived(forms.Command):
         ("Level", "level", LEVEL),
         ("Quantity", "quantity", QUANTITY),
         ("LabelMinutes", "label_minutes", forms.Where("level", "6", LABEL)),
+    )
+    BESIDE: ClassVar[forms.Members] = (
+        ("DateCode", "date_code", ATTRIBUTE),
+        ("Supplier", "supplier", ATTRIBUTE),
+        ("MakerPart", "maker_part", ATTRIBUTE),
+        ("Order", "order", ATTRIBUTE),
     )
 
 
@@ -225,11 +240,15 @@ class MaterialsInstalled(forms.Command):
     machine: str
     board: str
     designators: Sequence[str]
+    machine_reels: Optional[Sequence[Optional[str]]] = None
     WORD: ClassVar[str] = "MaterialsInstalled"
     MEMBERS: ClassVar[forms.Members] = (
         ("Machine", "machine", NAME),
         ("Board", "board", NAME),
         ("Designators", "designators", forms.ListOf(DESIGNATOR, 5000)),
+    )
+    BESIDE: ClassVar[forms.Members] = (
+        ("MachineReels", "machine_reels", forms.ForEach("designators", NAME)),
     )
 
 

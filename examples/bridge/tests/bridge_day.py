@@ -2,7 +2,7 @@
 killed.
 
 A machine writes the messages of the day, some of them twice, into a file that the bridge follows
-with the example's table. tracedesk-send sends the bridge's messages to `serve`. At random moments
+with the example's filter. tracedesk-send sends the bridge's messages to `serve`. At random moments
 the bridge, the sender or the program gets SIGKILL and is started again; some kills hit two of them.
 After that
   - each table of the desk has the rows that `feed` leaves of the messages, each given once and in
@@ -17,7 +17,6 @@ from __future__ import annotations
 import contextlib
 import csv
 import datetime
-import json
 import pathlib
 import random
 import subprocess
@@ -26,8 +25,9 @@ import time
 from typing import Any
 
 import killed
-import mapping
-from bridge_lab import EXAMPLE, MACHINE, Room, elements_of, line_of, ours, said
+from bridge_lab import MACHINE, Room, elements_of, line_of, one_lane, ours, said
+from filters import Filter
+from fronts import json_records
 from tracedesk_dev import ROOT
 from tracedesk_dev.ports import free_port
 
@@ -156,7 +156,7 @@ class DayOf:
 
 
 class Run(killed.Run):
-    """A machine that writes a log, a bridge with the example's table, its sender and a desk."""
+    """A machine that writes a log, a bridge with the example's filter, its sender and a desk."""
 
     kinds = (
         ("bridge",),
@@ -173,9 +173,10 @@ class Run(killed.Run):
     ) -> None:
         killed.Run.__init__(self, program, at, seed, kills)
         self.room, self.file, self.port = Room(at), at / "said.log", free_port()
-        self.room.table, self.day = EXAMPLE, DayOf(seed, panels).whole()
+        self.day = DayOf(seed, panels).whole()
+        self.room.table.write_text(one_lane())
         self.wanted_dead: list[bytes] = []
-        table = mapping.Table.read(EXAMPLE.read_bytes())
+        table = Filter(self.room.table)
         wanted: dict[bytes, None] = {}
         for number, line in enumerate(self.day.lines):
             self.lines.append(line)
@@ -197,7 +198,8 @@ class Run(killed.Run):
                 )
                 self.lines.append(self.wanted_dead[-1])
         for line in (it for it in self.lines if it not in self.wanted_dead):
-            wanted.update({it.text: None for it in table.made(json.loads(line))})
+            (record,) = json_records(line)
+            wanted.update({it.text: None for it in table.made(record)})
         self.wanted = list(wanted)
         for desk in ("desk", "clean"):
             killed.fed(program, self.at / desk, b"\n".join(self.day.before()))

@@ -1,5 +1,5 @@
-"""What the bridge's tests share: messages of machines and of the desk, a table, and a folder with a
-spool.
+"""What the bridge's tests share: messages of machines and of the desk, a filter, and a folder with
+a spool.
 """
 from __future__ import annotations
 
@@ -14,7 +14,7 @@ from typing import Any, Iterable, Optional
 from tracedesk_dev import ROOT
 
 BRIDGE = ROOT / "examples/bridge/tracedesk-bridge"
-EXAMPLE = ROOT / "examples/bridge/cfx-names.json"
+EXAMPLE = ROOT / "examples/bridge/cfx.jq"
 MACHINE = "Vendor1.Model1.Machine34"
 PATIENCE = 600  # seconds for what must come: a machine may be busy
 
@@ -23,41 +23,32 @@ def line_of(message: Any) -> bytes:
     return json.dumps(message, separators=(",", ":")).encode()
 
 
-def simple() -> Any:
-    """A table for machines that start each board, by which most tests are made."""
-    common = {"UniqueID": "{/UniqueID}", "Source": "{/Source}", "TimeStamp": "{/TimeStamp}"}
-    machine, board = {"Of": "{/Source}", "Names": "machines"}, "{/MessageBody/PrimaryIdentifier}"
-    installed_ = {
-        **common,
-        "Word": "MaterialsInstalled",
-        "Each": "/MessageBody/InstalledMaterials",
-        "UniqueID": "{/UniqueID}-{#}",
-        "Members": {
-            "Machine": machine,
-            "Board": "{UnitIdentifier}",
-            "Designators": {"Each": "InstalledComponents", "Make": "{ReferenceDesignator}"},
-        },
-    }
-    messages = {
-        f"CFX.Production.{word}": [
-            {**common, "Word": word, "Members": {"Machine": machine, "Board": board}}
-        ]
-        for word in ("WorkStarted", "WorkCompleted")
-    }
-    return json.loads(
-        json.dumps(
-            {
-                "Name": "/MessageName",
-                "Names": {
-                    "machines": {"Vendor1.Model1.Machine34": "M1", "Vendor1.Oven1.Oven7": None}
-                },
-                "Messages": {
-                    **messages,
-                    "CFX.Production.Assembly.MaterialsInstalled": [installed_],
-                },
-            }
-        )
-    )
+# A filter for machines that start each board, by which most tests are made.
+SIMPLE = """
+def machines: {"Vendor1.Model1.Machine34": "M1", "Vendor1.Oven1.Oven7": null};
+def words: {"CFX.Production.WorkStarted": "WorkStarted", "CFX.Production.WorkCompleted":
+  "WorkCompleted", "CFX.Production.Assembly.MaterialsInstalled": "MaterialsInstalled"};
+def name($what): if type == "string" then . elif type == "number" then tostring
+  elif . == null then error("\\($what) is not there") else error("\\($what) is no text") end;
+. as $m | (.MessageName | name("MessageName")) as $name | words[$name] as $word
+| if $word == null then empty else
+  (if machines | has($m.Source) then machines[$m.Source]
+   else error("machines don't have \\($m.Source)") end) as $machine
+  | def said($uid; $body): {MessageName: "TraceDesk.\\($word)", UniqueID: $uid, Source: .Source,
+      TimeStamp: (.TimeStamp | name("TimeStamp")), MessageBody: ({Machine: $machine} + $body)};
+  if $machine == null then empty
+  elif $word != "MaterialsInstalled" then
+    said(.UniqueID; {Board: (.MessageBody.PrimaryIdentifier | name("PrimaryIdentifier"))})
+  else (.MessageBody.InstalledMaterials | to_entries[] | select(.value.InstalledComponents != []))
+    as $unit | said("\\(.UniqueID)-\\($unit.key + 1)";
+      {Board: ($unit.value.UnitIdentifier | name("UnitIdentifier")),
+       Designators: [$unit.value.InstalledComponents[].ReferenceDesignator]}) end end
+"""
+
+
+def one_lane() -> str:
+    """The example for a machine with one lane."""
+    return EXAMPLE.read_text().replace('machine: "M1", lanes: 2', 'machine: "M1", lanes: 1')
 
 
 def said(name: str, uid: str = "u-1", source: str = MACHINE, **body: Any) -> dict[str, Any]:
@@ -94,7 +85,7 @@ def start(uid: str, **more: Any) -> bytes:
 
 
 def installed(*units: tuple[Any, list[str]]) -> dict[str, Any]:
-    """An install of the simple table: units, each with its designators."""
+    """An install of the simple filter: units, each with its designators."""
     return said(
         "CFX.Production.Assembly.MaterialsInstalled",
         InstalledMaterials=[
@@ -129,12 +120,12 @@ def elements_of(board: str, slot: str, pieces: Iterable[tuple[str, Any]]) -> lis
 
 
 class Room:
-    """A folder with a spool and a table."""
+    """A folder with a spool and a filter."""
 
     def __init__(self, at: pathlib.Path) -> None:
         self.at, self.spool = at, at / "spool"
-        self.table, self.file = at / "table.json", at / "said.log"
-        self.table.write_text(json.dumps(simple()))
+        self.table, self.file = at / "table.jq", at / "said.log"
+        self.table.write_text(SIMPLE)
         self.running: Optional[subprocess.Popen[bytes]] = None
 
     def command(self, *more: Any) -> list[Any]:

@@ -17,7 +17,7 @@ import brokers
 import keeping
 import logs
 import pytest
-from bridge_lab import Room, line_of, said, simple, start
+from bridge_lab import SIMPLE, Room, line_of, said, start
 
 
 def test_each_line_of_standard_input_is_answered(room: Room) -> None:
@@ -206,18 +206,11 @@ def test_a_refused_report_of_work_is_not_put_in_again(room: Room) -> None:
     """Not even by another table, and once its copies are deleted; a request that was refused may
     be.
     """
-    table = simple()
-    table["Messages"]["load"] = [
-        {
-            "Word": "MaterialsLoaded",
-            "UniqueID": "{/UniqueID}",
-            "Source": "{/Source}",
-            "TimeStamp": "{/TimeStamp}",
-            "Members": {"Machine": "M1", "Slot": "1", "Reel": "{/MessageBody/Reel}"},
-        }
-    ]
+    load_too = """if .MessageName == "load" then {MessageName: "TraceDesk.MaterialsLoaded", UniqueID,
+      Source, TimeStamp, MessageBody: {Machine: "M1", Slot: "1", Reel: .MessageBody.Reel}} else"""
+    table = f"{load_too} {SIMPLE} end"
     load = line_of(said("load", "l", Reel="K-1"))
-    room.table.write_text(json.dumps(table))
+    room.table.write_text(table)
     room.run(given=start("a") + b"\n" + load + b"\n")
     for number in (1, 2):
         for kept in (f"aside/00000000000{number}.json", f"sent/00000000000{number}.refused"):
@@ -226,48 +219,34 @@ def test_a_refused_report_of_work_is_not_put_in_again(room: Room) -> None:
     room.run(given=start("a") + b"\n")
     for it in (*(room.spool / "aside").iterdir(), *(room.spool / "sent").iterdir()):
         it.unlink()
-    table["Names"]["machines"]["Vendor1.Model1.Machine34"] = "M2"
-    room.table.write_text(json.dumps(table))
+    room.table.write_text(table.replace('"M1", "Vendor1.Oven1', '"M2", "Vendor1.Oven1'))
     done = room.run(given=start("a") + b"\n" + load + b"\n")
     assert done.stdout == b"kept 000000000001\nkept 000000000003\n"
     assert room.waiting() == ["l"]
 
 
-def test_numbers_that_others_round_are_no_names(room: Room) -> None:
-    lines = [
-        start(str(n)).replace(b'"SN-%d"' % n, number)
-        for n, number in enumerate(
-            (
-                b"9007199254740991",
-                b"9007199254740992",
-                b"9007199254740993.0",
-                b"1e16",
-                b"-9007199254740993",
-                b"1e999999999",
-                b"1e-999999999",
-                b"4503599627370496.2",
-                b"NaN",
-                b"1e99999999999999999999",
-                b"17.0",
-            )
-        )
+def test_numbers_that_others_round_keep_their_digits(room: Room) -> None:
+    """They come to the filter as texts, so two names never become one."""
+    numbers = [
+        b"9007199254740991",
+        b"9007199254740993",
+        b"9007199254740992",
+        b"-9007199254740993",
+        b"4503599627370496.2",
+        b"17.0",
+        b"2.5",
     ]
-    done = room.run(
-        given=b"\n".join(lines) + b"\n[" + lines[2] + b"," + lines[0] + b"]\n", status=1
-    )
-    assert [it.split()[0] for it in done.stdout.decode().splitlines()] == [
-        "kept",
-        *["dead"] * 9,
-        "kept",
-        "dead",
-        "kept",
-    ]
-    assert room.dead() == [it + b"\n" for it in lines[1:10]]
+    wrong = [b"NaN", b"1e99999999999999999999", b"01"]
+    lines = [start("x").replace(b'"SN-x"', it) for it in [*numbers, *wrong]]
+    named = [it.replace(b'"x"', b'"%d"' % number) for number, it in enumerate(lines)]
+    done = room.run(given=b"\n".join(named), status=1)
+    got = [it.split()[0] for it in done.stdout.decode().splitlines()]
+    assert got == ["kept"] * len(numbers) + ["dead"] * len(wrong)
     boards = [
         json.loads(it.read_bytes())["MessageBody"]["Board"]
         for it in sorted((room.spool / "waiting").iterdir())
     ]
-    assert boards == ["9007199254740991", "17"]
+    assert boards == [it.decode().replace("17.0", "17") for it in numbers]
 
 
 BODIES: list[tuple[Any, Any]] = [
@@ -315,7 +294,13 @@ def test_a_body_is_unpacked_whole_or_taken_as_it_came(body: Any, wanted: bytes) 
         ["--user", "x"],
         ["none"],
         ["--dead", "0"],
-        ["--table", "broken.json"],
+        ["--table", "broken.jq"],
+        ["--zone", "Europe/Nowhere"],
+        ["--form", "xlsx"],
+        ["--folder", "x", "said.log"],
+        ["--broker", "mqtt://127.0.0.1", "--queue", "q"],
+        ["--broker", "mqtts://x", "--topic", "t", "--user", "x"],
+        ["--broker", "amqps://x", "--queue", "q", "--topic", "t"],
         ["--table", "none"],
         ["--window", "0", "--broker", "amqp://x", "--queue", "q"],
     ],
@@ -324,7 +309,7 @@ def test_a_bad_command_line_is_refused(
     room: Room, words: list[str], monkeypatch: pytest.MonkeyPatch
 ) -> None:
     monkeypatch.chdir(room.at)
-    (room.at / "broken.json").write_text("{")
+    (room.at / "broken.jq").write_text("{")
     assert b"Traceback" not in room.run(*words, status=2).stderr
 
 

@@ -18,7 +18,7 @@ const answers = { kit: KIT, slots: SLOTS, status: {} };
 /** Answers as the proxy does: a report of now, a status file, the list of these files. */
 globalThis.fetch = async (target) => {
   const headers = { "X-Station-Now": String(NOW / 1000), "X-Desk-Answered": String(NOW / 1000) };
-  const path = target.split("?")[0];
+  const path = new URL(target).pathname;
   if (path === "/line/status/") {
     const list = Object.keys(answers.status).map((name) => ({ name, type: "file" }));
     return new Response(JSON.stringify(list), { headers });

@@ -1,6 +1,6 @@
 // What a page has and node hasn't: as little as the modules of the station touch when they load.
 globalThis.document = { documentElement: {}, body: { dataset: {} }, hidden: false };
-globalThis.location = { search: "", href: "https://desk/station/" };
+globalThis.location = { search: "", href: "https://desk/station/", origin: "https://desk" };
 globalThis.localStorage = { getItem: () => null, setItem: () => {} };
 globalThis.fetch = async () => {
   throw new Error("there is no network");

@@ -1,0 +1,175 @@
+"""The bridge takes from mosquitto, and either is killed; it wants mosquitto and
+python3-paho-mqtt.
+"""
+from __future__ import annotations
+
+import contextlib
+import importlib
+import json
+import pathlib
+import subprocess
+import time
+from typing import Any, Optional
+
+import pytest
+from bridge_lab import PATIENCE, Room, line_of, said, start
+from station_site import certificate
+from tracedesk_dev.ports import free_port
+
+pytestmark = [pytest.mark.needs("mosquitto", "python:paho")]
+TOPIC = "line/m1/said"
+
+
+class Mosquitto:
+    """A broker in a folder, which keeps what it has."""
+
+    def __init__(self, at: pathlib.Path, *more: str) -> None:
+        self.at, self.port = at, free_port()
+        self.running: Optional[subprocess.Popen[bytes]] = None
+        at.mkdir()
+        lines = [f"listener {self.port} 127.0.0.1", "persistence true", "autosave_on_changes true"]
+        lines += ["autosave_interval 1", f"persistence_location {at}/", "user root", *more]
+        (at / "mosquitto.conf").write_text("\n".join([*lines, ""]))
+        self.words: list[Any] = ["--broker", f"mqtt://127.0.0.1:{self.port}", "--topic", "line/#"]
+
+    def start(self) -> None:
+        words: list[Any] = ["/usr/sbin/mosquitto", "-c", self.at / "mosquitto.conf"]
+        with open(self.at / "told.txt", "ab") as told:
+            self.running = subprocess.Popen(words, stdout=told, stderr=told)
+
+    def kill(self) -> None:
+        if self.running:
+            self.running.kill()
+            self.running.wait()
+            self.running = None
+
+    def send(self, *messages: bytes, quality: int = 1) -> None:
+        """Publishes messages, and comes back once the broker has them."""
+        mqtt = importlib.import_module("paho.mqtt.client")
+        client, end = mqtt.Client(), time.monotonic() + PATIENCE
+        while True:
+            with contextlib.suppress(OSError):
+                client.connect("127.0.0.1", self.port)
+                break
+            assert time.monotonic() < end, (self.at / "told.txt").read_text()
+            time.sleep(0.1)
+        client.loop_start()
+        for message in messages:
+            client.publish(TOPIC, message, qos=quality).wait_for_publish(PATIENCE)
+        client.disconnect()
+        client.loop_stop()
+
+
+def follow(room: Room, broker: Mosquitto) -> None:
+    """Starts the bridge, and waits until the broker knows it."""
+    words = room.command(*broker.words)
+    room.running = subprocess.Popen(words, stderr=open(room.at / "said.txt", "ab"))
+    end = time.monotonic() + PATIENCE
+    while b"SUBSCRIBE" not in (broker.at / "told.txt").read_bytes():
+        assert time.monotonic() < end and room.running.poll() is None
+        time.sleep(0.05)
+
+
+def answer(room: Room) -> int:
+    """Answers what waits, as the sender does; how many these are."""
+    its = sorted((room.spool / "waiting").glob("*.json"))
+    for it in its:
+        it.rename(room.spool / "sent" / it.name)
+    return len(its)
+
+
+def everything(room: Room) -> list[str]:
+    its = [it for name in ("sent", "waiting") for it in (room.spool / name).glob("*.json")]
+    return [json.loads(it.read_bytes())["UniqueID"] for it in sorted(its, key=lambda it: it.name)]
+
+
+def test_a_bridge_or_a_broker_killed_at_each_record_loses_and_doubles_none(room: Room) -> None:
+    """Nothing is acknowledged before its answer: what was taken comes again, and acts once."""
+    broker = Mosquitto(room.at / "broker", "allow_anonymous true", "log_type all")
+    try:
+        broker.start()
+        broker.send()
+        follow(room, broker)
+        wanted = []
+        for number in range(1, 13):
+            name = f"u{number:02}"
+            broker.send(start(name))
+            wanted.append(name)
+            end = time.monotonic() + PATIENCE
+            while len(everything(room)) < number:
+                assert time.monotonic() < end, (room.at / "said.txt").read_text()
+                time.sleep(0.02)
+            if number % 3 == 0:
+                answer(room)
+            if number % 4 == 2:
+                time.sleep(1.5)  # the broker's file is a second behind
+                broker.kill()
+                broker.start()
+            else:
+                room.end()
+                follow(room, broker)
+        broker.send(line_of(said("CFX.Heartbeat")), b"{", start("last"))
+        end = time.monotonic() + PATIENCE
+        while everything(room) != [*wanted, "last"]:
+            assert time.monotonic() < end, (everything(room), (room.at / "said.txt").read_text())
+            time.sleep(0.05)
+        assert room.dead() == [b"{\n"]
+        answer(room)
+        time.sleep(1)
+        room.end()
+        (room.at / "said.txt").unlink()
+        follow(room, broker)
+        time.sleep(1)
+        assert everything(room) == [*wanted, "last"]
+    finally:
+        broker.kill()
+
+
+@pytest.mark.parametrize("more, why", [([], "not authorised"), (["--topic", "x/#"], "QoS 0")])
+def test_what_is_wrong_at_the_broker_is_reported(room: Room, more: list[str], why: str) -> None:
+    is_open = str(bool(more)).lower()
+    broker = Mosquitto(room.at / "broker", f"allow_anonymous {is_open}", "log_type all")
+    try:
+        broker.start()
+        words = room.command(*broker.words)
+        room.running = subprocess.Popen(words, stderr=open(room.at / "said.txt", "ab"))
+        end = time.monotonic() + PATIENCE
+        while why not in (room.at / "said.txt").read_text():
+            if more:
+                broker.send(start("a"), quality=0)
+            assert time.monotonic() < end, (room.at / "said.txt").read_text()
+            time.sleep(0.2)
+    finally:
+        broker.kill()
+
+
+@pytest.mark.needs("openssl")
+def test_a_password_goes_over_tls_alone(room: Room) -> None:
+    """To a broker whose certificate is right; another one gets nothing."""
+    certificate(room.at, "mqtt", "localhost")
+    certificate(room.at, "other", "localhost")
+    pem = room.at / "mqtt.crt"
+    more = [f"certfile {pem}", f"keyfile {room.at / 'mqtt.key'}", "allow_anonymous false"]
+    subprocess.run(["mosquitto_passwd", "-b", "-c", room.at / "users", "desk", "pw"], check=True)
+    broker = Mosquitto(room.at / "broker", *more, f"password_file {room.at / 'users'}")
+    try:
+        broker.start()
+        (room.at / "password").write_text("pw\n")
+        url = f"mqtts://localhost:{broker.port}"
+        for ca, why in (("other", "certificate verify failed"), ("mqtt", "")):
+            words = ["--broker", url, "--topic", "line/#", "--user", "desk", "--ca"]
+            words += [str(room.at / f"{ca}.crt"), "--password-file", str(room.at / "password")]
+            with open(room.at / "said.txt", "wb") as told:
+                room.running = subprocess.Popen(room.command(*words), stderr=told)
+            end = time.monotonic() + PATIENCE
+            text = room.at / "broker/told.txt"
+            while (
+                (why not in (room.at / "said.txt").read_text())
+                if why
+                else ("u'desk'" not in text.read_text())
+            ):
+                assert time.monotonic() < end, (room.at / "said.txt").read_text()
+                time.sleep(0.1)
+            room.end()
+    finally:
+        broker.kill()
