@@ -2,7 +2,7 @@
 # wants beside Python 3: rt is Rattle's kit, and the others are packages of Debian 12. A line of #: begins a group.
 # The program is that of PROGRAM=FILE, else crates/tracedesk/out/tracedesk as long as no source is newer. Where neither is there,
 # make build and make test prove and build it, make demo runs it before its proof, and the others say so and end.
-.PHONY: help demo build day plant-recall test lint ops-test truth-test evidence-test wrong-bodies faults send-test bridge-test station-test plant-test bench pictures dist
+.PHONY: help demo build day plant-recall test lint ops-test truth-test evidence-test wrong-bodies faults send-test bridge-test station-test plant-test bench dist
 row = sed -n 's/^\($(1)\):\( *\)\#\# /make \1\2/p; s/^\#: /\n/p' $(firstword $(MAKEFILE_LIST))
 say = @$(call row,$@) | grep make >&2
 
@@ -37,40 +37,33 @@ evidence-test: ## kills the tools that keep evidence at each call, and in 3,000 
 	$(say)
 	@ops/tests/evidence-faults --points 0 --moments 3
 	@ops/tests/evidence-faults --points 3000 random
-wrong-bodies:  ## tries all wrong bodies, those outside the tests too, and the wrong programs: each has to be refused; and asks another validator about all messages | 1 h, and up to 40 min for each of the programs | rt
+wrong-bodies:  ## tries all wrong bodies, those outside the tests too, and the wrong programs: each has to be refused | 1 h, and up to 40 min for each of the programs | rt
 	$(say)
 	@dev/wrong-bodies
-	@/usr/bin/python3 -m pytest -q -m whole dev/tests/test_api.py
-faults:        ## fails each call of the program, refuses its memory, cuts the power, kills it, fills its disk, damages its file, and makes it large | 25 min | gcc libc6-dev strace
+faults:        ## fails each call of the program, refuses its memory, cuts the power, kills it, and damages its file | 25 min | gcc libc6-dev
 	$(say)
 	@dev/faults/run calls
 	@dev/faults/run calls --planted
-	@dev/faults/run reads
-	@dev/faults/run large
-	@dev/faults/run kills
-	@dev/faults/run kills --planted --kills 20
 	@dev/faults/run damage
 send-test:     ## the senders: 10,000 messages while tracedesk-send, nginx and `serve` are killed 200 times; a proxy that fails; TLS; a model of all that is outside | 6 min | python3-pytest nginx openssl
 	$(say)
 	@/usr/bin/python3 -m pytest -q clients/python/tests
-bridge-test:   ## the bridge: its table, its sources, kills, and kills of RabbitMQ under it | 3 min | python3-pytest rabbitmq-server python3-qpid-proton openssl
+bridge-test:   ## the bridge: its filter, its sources, kills, and kills of RabbitMQ and mosquitto under it | 5 min | jq python3-pytest rabbitmq-server python3-qpid-proton mosquitto python3-paho-mqtt openssl
 	$(say)
 	@/usr/bin/python3 -m pytest -q examples/bridge/tests
 station-test:  ## the station in headless Chromium behind nginx: each flow, kills, looks: docs/station.md | 15 min | chromium chromium-driver python3-selenium nginx zbar-tools poppler-utils openssl
 	$(say)
 	@station/tests/station-test
-plant-test:    ## installs the packages on a fresh Debian 12 of its own, as root, follows docs/operations-*.md there, and runs the tests of ops/ | 20 min | debootstrap iproute2 pandoc binutils debhelper dpkg-dev python3-pytest
+plant-test:    ## installs the packages on a fresh Debian 12 of its own, as root, follows docs/operations-*.md there, and runs the tests of ops/ | 20 min | debootstrap iproute2 pandoc help2man binutils debhelper dpkg-dev python3-pytest
 	$(say)
 	@/usr/bin/python3 -m pytest -q ops/tests/test_installed*.py
 
 #: measure
-bench:         ## what a day costs, beside stock SQLite | 5 min | time
+bench:         ## what a day costs | 5 min | time
 	$(say)
 	@dev/bench/run day
-pictures:      ## the SVGs of docs/: crates, a splice, starts by pieces, two years | 1 s
-	@dev/pictures
 
 #: package
-dist:          ## Debian's packages and a tarball in dist: both programs and what a plant installs with them | 20 s | pandoc binutils debhelper dpkg-dev
+dist:          ## Debian's packages in dist: both programs and what a plant installs with them | 1 min | pandoc help2man debhelper dpkg-dev
 	$(say)
 	@dev/dist
