@@ -81,6 +81,25 @@ def test_a_copy_has_all_records_and_a_restore_brings_back_what_is_lacking(
         assert boards(its) == [*ALL, "B9"]
 
 
+@pytest.mark.parametrize("became", ["used as it is", "taken off"])
+def test_of_two_decisions_of_one_second_the_board_stays_in_recalls(
+    archive: pathlib.Path, monkeypatch: pytest.MonkeyPatch, became: str
+) -> None:
+    """Whichever of them has the smaller id: both wait when they are collected."""
+    monkeypatch.setattr(untraced, "now", lambda: REFUSED_AT)
+    its = [it.id for it in untraced.undecided(untraced.read(archive).records)]
+    with monkeypatch.context() as not_yet:
+        not_yet.setattr(untraced, "collect", lambda archive: None)
+        for number in range(16):
+            order = [became, untraced.SCRAPPED][:: 1 if number % 2 else -1]
+            for word in order:
+                untraced.decide(archive, its[number % 3], f"P{number}", word, "seen")
+    waiting = untraced.decisions(untraced.read(archive).records)
+    untraced.collect(archive)
+    assert waiting == untraced.decisions(untraced.rows_of(archive)[0])
+    assert [untraced.is_shipped(waiting[it]) for it in its] == [True] * 3
+
+
 # --- Texts that nobody meant to send, and that come all the same
 
 ODD = [

@@ -293,7 +293,9 @@ class Waiting(NamedTuple):
 
 def waiting_in(inbox: pathlib.Path) -> Waiting:
     """What waits in an inbox, and in the folder of decisions beside it. A decision in the inbox is
-    none: who may send may put it there."""
+    none: who may send may put it there. Of two decisions of one second, whose order nobody knows,
+    the one that leaves a board in recalls comes last, and counts.
+    """
     records, taken, faults = [], [], []
     for file in inboxes.files_in(inbox):
         try:
@@ -310,7 +312,7 @@ def waiting_in(inbox: pathlib.Path) -> Waiting:
             continue  # collected meanwhile: its row is on disk
         except (OSError, ValueError) as fault:
             faults.append(f"{file}: {fault}: look at what its sender has of it, then move it away")
-    records.sort(key=lambda it: (it.told["At"], it.id))
+    records.sort(key=lambda it: (it.told["At"], it.told.get("Became") != SCRAPPED, it.id))
     return Waiting({it.id: it for it in records}, taken, faults)
 
 
