@@ -1,10 +1,12 @@
-# An example: records in the shape of IPC's SDK for IPC-2591, as messages of a desk. The names of work are after
-# that standard, and those of loads, splices and floor life are made up after them. Check each name and path
-# against the text of the standard and against what your machine sends: no conformance is claimed.
+# An example: records in the shape of IPC's SDK for IPC-2591, as messages of a desk. The names of
+# work are after that standard, and those of loads, splices and floor life are made up after them.
+# Check each name and path against the text of the standard and against what your machine sends: no
+# conformance is claimed.
 
-# Each machine, the desk's name for it and its lanes; null passes a machine over. A desk has one board at a time in
-# work on a machine. With one lane the first unit of a carrier is in work from the carrier's start to its completion.
-# With two, each board is started and completed around its pieces: its start comes late, and can't hold the machine.
+# Each machine, the desk's name for it and its lanes; null passes a machine over. A desk has one
+# board at a time in work on a machine. With one lane the first unit of a carrier is in work from
+# the carrier's start to its completion. With two, each board is started and completed around its
+# pieces: its start comes late, and can't hold the machine.
 def machines: {
   "Vendor1.Model1.Machine34": {machine: "M1", lanes: 2},
   "Vendor1.Model1.Machine35": {machine: "M2", lanes: 1},
@@ -27,18 +29,25 @@ def list($what): if type == "array" then . elif . == null then error("\($what) i
   else error("\($what) is no list") end;
 def said($m; $word; $more; $body):
   {MessageName: "TraceDesk.\($word)", UniqueID: (($m.UniqueID | name("UniqueID")) + $more),
-   Source: ($m.Source | name("Source")), TimeStamp: ($m.TimeStamp | name("TimeStamp")), MessageBody: $body};
+   Source: ($m.Source | name("Source")), TimeStamp: ($m.TimeStamp | name("TimeStamp")),
+   MessageBody: $body};
 
-# Each unit with its pieces: a board of its own, CARRIER-1, CARRIER-2. MachineReels is the reel that the machine names.
-def units: [.InstalledMaterials | list("InstalledMaterials") | group_by([.UnitIdentifier, .UnitPositionNumber // 1])[]
-    | (.[0].UnitPositionNumber // 1) as $place | (.[0].UnitIdentifier | name("UnitIdentifier")) as $carrier
-    | {$place, first: "\($carrier)-1", board: "\($carrier)-\($place | name("UnitPositionNumber"))",
-       pieces: [.[] | .Material.UniqueIdentifier as $reel | .InstalledComponents | list("InstalledComponents")[]
+# Each unit with its pieces: a board of its own, CARRIER-1, CARRIER-2. MachineReels is the reel that
+# the machine names.
+def units: [.InstalledMaterials | list("InstalledMaterials")
+    | group_by([.UnitIdentifier, .UnitPositionNumber // 1])[]
+    | (.[0].UnitPositionNumber // 1) as $place
+    | (.[0].UnitIdentifier | name("UnitIdentifier")) as $carrier
+    | {$place, first: "\($carrier)-1",
+       board: "\($carrier)-\($place | name("UnitPositionNumber"))",
+       pieces: [.[] | .Material.UniqueIdentifier as $reel
+         | .InstalledComponents | list("InstalledComponents")[]
          | {designator: (.ReferenceDesignator | name("ReferenceDesignator")), $reel}]}
     | select(.pieces != [])] | to_entries | map(.value + {more: "-\(.key + 1)"});
 def placed($m; $machine; $unit; $more): said($m; "MaterialsInstalled"; $more;
     {Machine: $machine, Board: $unit.board, Designators: [$unit.pieces[].designator]}
-    + if any($unit.pieces[]; .reel != null) then {MachineReels: [$unit.pieces[].reel]} else {} end);
+    + if any($unit.pieces[]; .reel != null)
+      then {MachineReels: [$unit.pieces[].reel]} else {} end);
 def whole($m; $machine; $unit): {Machine: $machine, Board: $unit.board} as $at
   | said($m; "WorkStarted"; "\($unit.more)-s"; $at), placed($m; $machine; $unit; "\($unit.more)-i"),
     said($m; "WorkCompleted"; "\($unit.more)-c"; $at);
@@ -51,9 +60,11 @@ def installed($m; $machine; $lanes): ($m.MessageBody | units) as $all
       ($others[] | whole($m; $machine; .)),
       said($m; "WorkStarted"; "-s"; {Machine: $machine, Board: $others[0].first}) end;
 
-def reels: .MessageBody.Materials | list("Materials") | to_entries[] | {more: "-\(.key + 1)", its: .value};
+def reels: .MessageBody.Materials | list("Materials") | to_entries[]
+  | {more: "-\(.key + 1)", its: .value};
 def its_machine: (.Source | name("Source")) as $source
-  | if machines | has($source) then machines[$source] else error("\($source) is no machine of the filter") end;
+  | if machines | has($source) then machines[$source]
+    else error("\($source) is no machine of the filter") end;
 def messages($word): . as $m | if $word | startswith("Reel") then
     reels | said($m; $word; .more; {Reel: (.its.UniqueIdentifier | name("UniqueIdentifier"))})
   else its_machine as $its | if $its == null then empty
@@ -66,7 +77,9 @@ def messages($word): . as $m | if $word | startswith("Reel") then
     else said($m; $word; ""; {Machine: $its.machine,
       Board: "\(.MessageBody.PrimaryIdentifier | name("PrimaryIdentifier"))-1"}) end end;
 
-# A record of another name is passed over. One that lacks a member is a dead letter; who looks at it sees what it was.
+# A record of another name is passed over. One that lacks a member is a dead letter; who looks at it
+# sees what it was.
 (.MessageName | name("MessageName")) as $name | kinds[$name] as $word | . as $m
 | if $word == null then empty else try messages($word) catch error({why: ., message: {
-    MessageName: "TraceDesk.\($word)", MessageBody: {Machine: ([$m.Source | strings | machines[.]][0] // {}).machine}}}) end
+    MessageName: "TraceDesk.\($word)",
+    MessageBody: {Machine: ([$m.Source | strings | machines[.]][0] // {}).machine}}}) end

@@ -1,20 +1,22 @@
-# An example: a log of a machine in CSV, a row an event, or a file of such rows for each board. Its columns and words are
-# made up: Time;Event;Panel;Unit;Side;Designator;Slot;Reel;Next. Write your machine's in their place.
+# An example: a log of a machine in CSV, a row an event, or a file of such rows for each board. Its
+# columns and words are made up: Time;Event;Panel;Unit;Side;Designator;Slot;Reel;Next. Write your
+# machine's in their place.
 
 def machine: "M1";   # the desk's name of the machine, or of this module
-def around: false;   # true: two lanes, panels, or a log without starts. Each board is started and completed
-                     # around its pieces, so its start can't hold the machine
+def around: false;   # true: two lanes, panels, or a log without starts. Each board is started and
+                     # completed around its pieces, so its start can't hold the machine
 def sides: false;    # true: the side is a part of the board's name
 
 def need($what): .[$what] // "" | if . == "" then error("\($what) is not there") else . end;
 def board: need("Panel") + (if (.Unit // "") == "" then "" else "/\(.Unit)" end)
   + if sides then "-\(need("Side"))" else "" end;
-def said($word; $more; $body): {MessageName: "TraceDesk.\($word)", UniqueID: "\($id)\($more)", Source: machine,
-  TimeStamp: need("Time"), MessageBody: $body};
+def said($word; $more; $body): {MessageName: "TraceDesk.\($word)", UniqueID: "\($id)\($more)",
+  Source: machine, TimeStamp: need("Time"), MessageBody: $body};
 def at: {Machine: machine, Board: board};
 def slot: {Machine: machine, Slot: need("Slot")};
 
-# The pieces of one board. MachineReels is what the log says of their reels, so that a wrong one is noticed.
+# The pieces of one board. MachineReels is what the log says of their reels, so that a wrong one is
+# noticed.
 def placed($more): . as $rows | .[0] | said("MaterialsInstalled"; $more; at
   + {Designators: [$rows[] | need("Designator")]}
   + if any($rows[]; (.Reel // "") != "")
@@ -37,9 +39,11 @@ def event: if .Event == "PLACE" then [.] | if around then whole("") else placed(
   elif .Event == "START" or .Event == "END" or .Event == "BAD" or .Event == "REWORK" then empty
   else error("Event \(.Event) is none of this filter") end;
 
-# Each record: a row, or the rows of a file. A unit with a bad mark has no pieces, and so no message.
+# Each record: a row, or the rows of a file. A unit with a bad mark has no pieces, so no message.
 def of_pieces: .Event as $word | ["PLACE", "START", "END", "BAD", "REWORK"] | any(.[]; . == $word);
 if .Rows == null then event
-elif any(.Rows[]; of_pieces | not) then error("a file of pieces has other events: take them from a log of rows")
-else [.Rows[] | select(.Event == "PLACE")] | group_by(board) | to_entries[] | "-\(.key + 1)" as $more | .value | whole($more)
+elif any(.Rows[]; of_pieces | not)
+then error("a file of pieces has other events: take them from a log of rows")
+else [.Rows[] | select(.Event == "PLACE")] | group_by(board) | to_entries[]
+  | "-\(.key + 1)" as $more | .value | whole($more)
 end
