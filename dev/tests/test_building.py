@@ -1,6 +1,7 @@
 """dev/build proves crates side by side: with an rt that is made up, in a made-up repository."""
 import os
 import pathlib
+import subprocess
 
 import pytest
 from tracedesk_dev import building
@@ -17,11 +18,11 @@ done
 mkdir -p out/rlib && touch out/rlib/stamp
 echo "ends $crate $PWD" >> {log}
 """
-MEET = """for it in $(seq 600); do
+MEET = """for it in $(seq 6000); do
   grep -q '^begins {other} ' {log} && break
   sleep 0.1
 done
-[ $it -lt 600 ]
+[ $it -lt 6000 ]
 """
 
 
@@ -74,6 +75,15 @@ def test_one_that_fails_ends_those_beside_it(root: pathlib.Path) -> None:
     assert (why.value.status, why.value.said) == (1, "no goal was met\n")
     assert [it.split()[0] for it in log(root, "ends")] == ["low"]
     assert not (root / "crates/main/out/lanes").exists()
+
+
+def test_one_that_has_just_ended_is_in_no_ones_way(root: pathlib.Path) -> None:
+    at_once = building.Lanes("main", 1, root)
+    ended = subprocess.Popen(["true"], start_new_session=True, text=True)
+    ended.wait()
+    at_once.running.add(ended)
+    at_once.stop()
+    assert at_once.is_stopped
 
 
 def test_a_machine_for_one_proof_has_no_copies(

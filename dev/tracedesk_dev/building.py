@@ -3,6 +3,7 @@
 rt keeps others out of a crate's folder and of those below it. So each lane but the first proves in
 a checkout of its own in the program's out/, and rt takes what the other lanes have proved.
 """
+import contextlib
 import os
 import pathlib
 import re
@@ -143,7 +144,8 @@ class Lanes:
         """Ends what runs, and what is still to run."""
         self.is_stopped = True
         for it in [*self.running]:
-            os.killpg(it.pid, signal.SIGKILL)
+            with contextlib.suppress(ProcessLookupError):  # it has just ended
+                os.killpg(it.pid, signal.SIGKILL)
 
     def close(self) -> None:
         shutil.rmtree(self.room, ignore_errors=True)
