@@ -77,9 +77,10 @@ def test_the_watch_knows_the_newest_seal_and_the_archives(line: LineFolder) -> N
     (archive,) = store.Reader().chain(as_read(line)).archives
     for path in line.sealed.iterdir():
         os.utime(path, (1_000_000, 1_000_000))
+    before = time.time()
     newest = seal(line, "e")
     samples = {name: value for name, value, _ in sealed_watch.newest(line.sealed)}
-    assert abs(samples["backup_timestamp_seconds"] - time.time()) < 60
+    assert before - 1 <= samples["backup_timestamp_seconds"] <= time.time()
     assert samples["backup_commands"] == newest.commands and samples["backup_pieces"] == 0
     samples = {
         name: value for name, value, _ in sealed_watch.archives(line.sealed, lambda _: False)

@@ -44,6 +44,13 @@ except held.NoCopy as why:
 """
 
 
+@pytest.fixture(autouse=True)
+def busy(monkeypatch: pytest.MonkeyPatch) -> None:
+    """A machine that has much to do is no slow disk."""
+    for name in ("LONGEST", "SLOW"):
+        monkeypatch.setattr(held, name, PATIENCE)
+
+
 def marker(number: int = 0) -> bytes:
     return messages.message("ClockSet", f"copy-{number}", source="tracedesk")
 
@@ -91,10 +98,8 @@ def commands(file: pathlib.Path) -> dict[str, int]:
 
 @pytest.mark.gate
 def test_a_copy_under_load_ends_in_its_marker_and_has_what_was_acknowledged(
-    served: Desk, sender: Sender, folder: pathlib.Path, monkeypatch: pytest.MonkeyPatch
+    served: Desk, sender: Sender, folder: pathlib.Path
 ) -> None:
-    for name in ("LONGEST", "SLOW"):
-        monkeypatch.setattr(held, name, PATIENCE)  # a busy machine is no slow disk
     wait_for("some messages are answered", lambda: len(sender.numbers) > 20)
     for number in range(10):
         to = folder / f"copy-{number}"

@@ -43,6 +43,13 @@ for (const heading of document.querySelectorAll("th")) {
 }
 return broken;
 """
+# In one call each: a page that waits renews itself, and an element of the one before is stale.
+TEXT_OF = "const it = document.getElementById(arguments[0]); return it && it.innerText.trim();"
+CLICK = """
+const it = [...document.links].find((link) => link.textContent === arguments[0]);
+if (it) it.click();
+return Boolean(it);
+"""
 SHIPPED = "board,customer,date\nSN-3,Customer A,2026-03-09\n"
 
 
@@ -159,17 +166,20 @@ class Reader:
             file.write_text(shipped)
             self.page.find_element("id", "shipped").send_keys(str(file))
         self.page.find_element("id", "ask").click()
-        station_site.wait_for("it waits", lambda: self.page.find_elements("id", "wait"))
-        return str(self.page.find_element("id", "wait").text)
+        return self.shown("wait")
+
+    def shown(self, name: str) -> str:
+        """The text of an element of this name, once it is there."""
+        text = station_site.wait_for(name, lambda: self.page.execute_script(TEXT_OF, name))
+        return str(text)
 
     def goes_back(self) -> None:
-        self.page.find_element("link text", "Another recall").click()
+        assert self.page.execute_script(CLICK, "Another recall")
         station_site.wait_for("the form", lambda: self.page.find_elements("id", "ask"))
 
     def waits(self) -> str:
         """The sentence in the frame of the answer, for which the page renews itself."""
-        station_site.wait_for("an answer", lambda: self.page.find_elements("id", "answer"))
-        return str(self.page.find_element("id", "answer").text)
+        return self.shown("answer")
 
     @property
     def text(self) -> str:

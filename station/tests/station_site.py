@@ -299,7 +299,7 @@ class Site:
         two requests and the desk one connection at a time, so its line is known, behind all before.
         """
         heads: list[dict[str, str]] = [{}, {"Connection": "close"}]
-        link = http.client.HTTPConnection("127.0.0.1", self.desk_port, timeout=20)
+        link = http.client.HTTPConnection("127.0.0.1", self.desk_port, timeout=PATIENCE)
         with contextlib.closing(link):
             for headers in heads:
                 link.request("GET", "/overdue", headers=headers)

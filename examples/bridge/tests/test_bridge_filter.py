@@ -10,7 +10,18 @@ from typing import Any, Iterator
 
 import filters
 import pytest
-from bridge_lab import EXAMPLE, SIMPLE, Room, elements_of, installed, line_of, one_lane, ours, said
+from bridge_lab import (
+    EXAMPLE,
+    PATIENCE,
+    SIMPLE,
+    Room,
+    elements_of,
+    installed,
+    line_of,
+    one_lane,
+    ours,
+    said,
+)
 from filters import BadFilter, Filter, NotMapped
 from fronts import json_records
 
@@ -248,8 +259,10 @@ WRONG: list[tuple[str, str]] = [
 def test_a_filter_that_gives_no_message_has_its_reason(
     at: Any, text: str, why: str, monkeypatch: pytest.MonkeyPatch
 ) -> None:
-    """Also one that ends jq, or wants more input than a record; and the next record is taken."""
-    monkeypatch.setattr(filters, "ANSWER", 1.0)
+    """Also one that ends jq, or wants more input than a record, for both of which the bridge waits;
+    and the next record is taken.
+    """
+    monkeypatch.setattr(filters, "ANSWER", 5.0 if text in ("halt", "input") else PATIENCE)
     table = at(f'if .a == null then {MESSAGE} else (. + {{MessageName: "x"}}) | {text} end')
     good = line_of({**RECEIVED, "lot": "1"})
     bad = line_of({**RECEIVED, "lot": "1", "a": 7})

@@ -9,6 +9,7 @@ import json
 import pathlib
 import subprocess
 import time
+import uuid
 from typing import Any, Optional
 
 import pytest
@@ -42,6 +43,20 @@ class Mosquitto:
             self.running.kill()
             self.running.wait()
             self.running = None
+
+    def wait_until_kept(self) -> None:
+        """Waits until all that the broker has by now is in its file, by a mark that comes last."""
+        mqtt = importlib.import_module("paho.mqtt.client")
+        mark, file = uuid.uuid4().hex.encode(), self.at / "mosquitto.db"
+        client, end = mqtt.Client(), time.monotonic() + PATIENCE
+        client.connect("127.0.0.1", self.port)
+        client.loop_start()
+        client.publish("mark", mark, qos=1, retain=True).wait_for_publish(PATIENCE)
+        client.disconnect()
+        client.loop_stop()
+        while not file.exists() or mark not in file.read_bytes():
+            assert time.monotonic() < end, (self.at / "told.txt").read_text()
+            time.sleep(0.05)
 
     def send(self, *messages: bytes, quality: int = 1) -> None:
         """Publishes messages, and comes back once the broker has them."""
@@ -102,7 +117,7 @@ def test_a_bridge_or_a_broker_killed_at_each_record_loses_and_doubles_none(room:
             if number % 3 == 0:
                 answer(room)
             if number % 4 == 2:
-                time.sleep(1.5)  # the broker's file is a second behind
+                broker.wait_until_kept()
                 broker.kill()
                 broker.start()
             else:

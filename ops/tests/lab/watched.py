@@ -6,6 +6,7 @@ import pathlib
 import re
 import socket
 import threading
+import time
 from typing import Any, Iterator
 
 from lab.site import Site
@@ -82,10 +83,13 @@ def expect(found: Metrics, **wanted: Any) -> None:
 
 
 def make_line(site: Site) -> None:
-    """A line whose slots, floor lives and overdue pieces are known."""
+    """A line whose slots, floor lives and overdue pieces are known. All times are before one
+    moment, so that no minute begins amid them.
+    """
+    moment = time.monotonic()
 
     def accept(word: str, minutes_ago: int, **body: Any) -> None:
-        told = site.say(word, body, minutes_ago)
+        told = site.say(word, body, minutes_ago + (time.monotonic() - moment) / 60)
         assert told["Answer"] == "Accepted", f"{word} was answered {told}"
 
     rows = [
