@@ -37,6 +37,7 @@ class Line:
 
     def __init__(self) -> None:
         self.told = 0
+        self.parts: set[str] = set()  # those that are defined: a second definition is refused
 
     def say(self, word: str, **body: object) -> bytes:
         self.told += 1
@@ -51,7 +52,8 @@ class Line:
 
     def sheet(self, machine: str, parts: list[str], designators: int = 1) -> Iterator[bytes]:
         """A sheet of a slot for each part, selected on the machine."""
-        for part in sorted(set(parts)):
+        for part in sorted(set(parts) - self.parts):
+            self.parts.add(part)
             yield self.say("PartDefined", PartNumber=part)
         rows = [
             {
