@@ -11,7 +11,7 @@ from typing import Callable, Iterator
 import pytest
 from lab import ROOT
 from lab.installed import archives_of, metrics_of
-from lab.machine import ARCHIVE, COPIES, URL, Machine, part
+from lab.machine import ARCHIVE, COPIES, JSON, URL, Machine, part
 from lab.waits import wait_for
 from test_installed_line import CLOCK_ALONE
 
@@ -29,6 +29,7 @@ systemctl enable --now tracedesk-recall-page tracedesk-recall-work
 systemctl reload nginx
 """
 ASK = f"curl -sS -o /tmp/body -w '%{{http_code}} %{{redirect_url}}' {ANNA}"
+LINE, FOLDER = "L2", "/var/lib/tracedesk/L2"  # a line that is a folder
 PAPERS = {
     "recall.pdf": b"%PDF",
     "recall.xlsx": b"PK",
@@ -63,11 +64,11 @@ def ran(machine: Machine, unit: str) -> None:
 
 
 def test_no_unit_is_left_out(machine: Machine) -> None:
-    """Each has a test here by its name."""
+    """Each has a test here by its name, in which `of` stands for @."""
     units = machine.shell("cd /lib/systemd/system; ls tracedesk*.service").split()
     packaged = {path.name for path in (ROOT / "packaging").glob("tracedesk*.service")}
     assert set(units) == packaged
-    names = [name.removesuffix(".service").removesuffix("@") for name in units]
+    names = [name.removesuffix(".service").replace("@", "-of") for name in units]
     tests = {name.replace("-", "_") for name in names}
     assert tests == {name.removeprefix("test_") for name in globals() if name[5:] in tests}
 
@@ -78,7 +79,7 @@ def test_tracedesk(machine: Machine, journal: Callable[[str], None]) -> None:
     journal("tracedesk")
 
 
-def test_tracedesk_send(machine: Machine, journal: Callable[[str], None]) -> None:
+def test_tracedesk_send_of(machine: Machine, journal: Callable[[str], None]) -> None:
     """A file of a message, from its folder to the desk's answer."""
     at = "/var/lib/tracedesk-send/m1"
     machine.write(f"{part('each-send')}\n", "/tmp/each.tmp")
@@ -208,3 +209,78 @@ def test_tracedesk_untraced(machine: Machine, journal: Callable[[str], None]) ->
     assert "SN-each" in machine.shell(f"cat {ARCHIVE}/untraced.csv")
     assert state_of(machine, "tracedesk-untraced") == ["success", "0"]
     journal("tracedesk-untraced")
+
+
+# --- A line that is a folder
+
+
+@pytest.fixture
+def line(machine: Machine) -> Iterator[str]:
+    """The URL of a line that is a folder, made as its page says. It goes away, since other tools
+    would ask for it too.
+    """
+    page = (ROOT / "docs/line-folder.md").read_text(encoding="utf-8")
+    script = page.split("```text\n")[1].split("```")[0].replace("L1", LINE)
+    port = re.search(r"port = (\d+)", script)
+    assert port
+    machine.shell(script)
+    url = f"http://127.0.0.1:{port[1]}"
+    wait_for("its desk answers", lambda: posted(machine, url, "each-line") == "200")
+    yield url
+    machine.shell(
+        f"systemctl disable --now tracedesk@{LINE} tracedesk-line-{{seal,rollover}}@{LINE}.timer;"
+        f" rm -r {FOLDER} /etc/tracedesk/{LINE}.conf"
+    )
+
+
+def posted(machine: Machine, url: str, name: str) -> str:
+    """The status of the answer to a part of this name."""
+    curl = f"curl -s -o /dev/null -w '%{{http_code}}' {JSON}"
+    return machine.shell(f"{curl} --data-binary '{part(name)}' {url}/messages || true").strip()
+
+
+def sound(machine: Machine, files: int) -> None:
+    """The line has so many files in its chain, the newest of its desk as it is."""
+    machine.shell(f"tracedesk-ops seal {LINE}")
+    assert f": sound, {files} files, " in machine.shell(f"tracedesk-ops check {LINE}")
+
+
+def test_tracedesk_of(machine: Machine, line: str, journal: Callable[[str], None]) -> None:
+    """It serves the desk of the line's folder again, once it is started again."""
+    machine.shell(f"systemctl restart tracedesk@{LINE}")
+    wait_for("it answers again", lambda: posted(machine, line, "each-line") == "200")
+    assert machine.shell(f"stat -c '%U %a' {FOLDER}/desk").strip() == "tracedesk 600"
+    sound(machine, 1)
+    assert state_of(machine, f"tracedesk@{LINE}") == ["success", "0"]
+    journal(f"tracedesk@{LINE}")
+
+
+def test_tracedesk_line_seal_of(
+    machine: Machine, line: str, journal: Callable[[str], None]
+) -> None:
+    ran(machine, f"tracedesk-line-seal@{LINE}")
+    (name,) = machine.shell(f"ls {FOLDER}/sealed").split()
+    digits = machine.shell(f"sha256sum {FOLDER}/sealed/{name}")[:24]
+    assert name == f"{digits}.desk"
+    assert machine.shell(f"stat -c '%U %a' {FOLDER}/sealed/{name}").strip() == "tracedesk 400"
+    sound(machine, 1)
+    journal(f"tracedesk-line-seal@{LINE}")
+
+
+def test_tracedesk_line_rollover_of(
+    machine: Machine, line: str, journal: Callable[[str], None]
+) -> None:
+    """As its timer calls it, but for how many pieces make it due."""
+    unit = f"tracedesk-line-rollover@{LINE}"
+    at = f"/run/systemd/system/{unit}.service.d"
+    call = f"/usr/bin/tracedesk-ops rollover {LINE} --if-due --pieces 0"
+    machine.write(f"[Service]\nExecStart=\nExecStart={call}\n", f"{at}/due.conf")
+    try:
+        machine.shell("systemctl daemon-reload")
+        ran(machine, unit)
+    finally:
+        machine.shell(f"rm -r {at}; systemctl daemon-reload")
+    assert posted(machine, line, "each-later") == "200"
+    sound(machine, 2)
+    journal(unit)
+    journal(f"tracedesk@{LINE}")
