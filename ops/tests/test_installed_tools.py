@@ -1,11 +1,14 @@
 """The repository's tests of the tools, on a fresh Debian 12: they try what is installed there."""
+import os
 import subprocess
+from concurrent.futures import Future, ThreadPoolExecutor
+from typing import Iterator
 
 import pytest
 from lab import ROOT
 from lab.machine import PAGES, Machine
 
-pytestmark = [pytest.mark.root, pytest.mark.xdist_group("machine")]
+pytestmark = [pytest.mark.root, pytest.mark.xdist_group("machine_of_tools")]
 
 AT, INSTALLED = "/root/tests", "/usr/lib/tracedesk"
 GIVEN = (  # what the tests are given of the repository
@@ -49,8 +52,16 @@ def tested(machine: Machine) -> Machine:
     return machine
 
 
-@pytest.mark.parametrize("file", FILES)
-def test_the_installed_tools_pass(tested: Machine, file: str) -> None:
+@pytest.fixture(scope="module")
+def said(tested: Machine, request: pytest.FixtureRequest) -> Iterator[dict[str, Future[str]]]:
+    """What pytest says of each file, as many files at once as there are processors."""
+    asked = [it for it in FILES if any(it in item.name for item in request.session.items)]
     words = "python3 -B -m pytest -q -p no:cacheprovider -m 'gate and not whole'"
-    call = f"cd {AT}; PROGRAM=/usr/bin/tracedesk {words} ops/tests/{file}"
-    tested.shell(call, patience=3600)
+    call = f"cd {AT}; PROGRAM=/usr/bin/tracedesk {words} ops/tests/"
+    with ThreadPoolExecutor(os.cpu_count()) as threads:
+        yield {it: threads.submit(tested.shell, call + it, patience=3600) for it in asked}
+
+
+@pytest.mark.parametrize("file", FILES)
+def test_the_installed_tools_pass(said: dict[str, Future[str]], file: str) -> None:
+    said[file].result()

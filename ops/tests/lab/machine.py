@@ -13,6 +13,7 @@ as FILE:PATH.
 from __future__ import annotations
 
 import contextlib
+import fcntl
 import os
 import pathlib
 import re
@@ -279,9 +280,17 @@ class Machine:
         self.shell("systemctl enable --now tracedesk-watch.timer tracedesk-send@m1")
 
 
-@contextlib.contextmanager
-def booted() -> Iterator[Machine]:
-    """The machine, without the packages."""
+def make_ready() -> None:
+    """Brings what is missing here, and makes the machine, if nobody has. Two tests at once wait for
+    one another.
+    """
+    FOLDER.parent.mkdir(parents=True, exist_ok=True)
+    with open(f"{FOLDER}.lock", "w") as lock:
+        fcntl.flock(lock, fcntl.LOCK_EX)
+        make_folder()
+
+
+def make_folder() -> None:
     if missing := sorted({its for command, its in HERE.items() if not shutil.which(command)}):
         run("apt-get", "update")
         run("apt-get", "install", "-y", "--no-install-recommends", *missing)
@@ -292,6 +301,12 @@ def booted() -> Iterator[Machine]:
         packages.write_text(THERE)
     if not packages.exists() or packages.read_text() != THERE:
         raise FileExistsError(f"{FOLDER} is not the machine that these tests want: remove it")
+
+
+@contextlib.contextmanager
+def booted() -> Iterator[Machine]:
+    """The machine, without the packages."""
+    make_ready()
     with tempfile.TemporaryDirectory() as room:
         machine = Machine(FOLDER, pathlib.Path(room) / "memory")
         try:
