@@ -5,6 +5,7 @@ import subprocess
 import sys
 
 from tracedesk_dev import ROOT
+from tracedesk_ops import cli
 
 TOOLS = {
     tool.name: tool
@@ -21,8 +22,11 @@ OPTION = re.compile(r"(?<![\w-])--[a-z][a-z-]*")
 
 @functools.cache
 def options(tool: str) -> set[str]:
-    words = (sys.executable, str(TOOLS[tool]), "--help")
-    return set(OPTION.findall(subprocess.run(words, capture_output=True, text=True).stdout))
+    found = set()
+    for subcommand in ("", *(cli.APART if tool == "tracedesk-ops" else ())):
+        words = [sys.executable, str(TOOLS[tool]), *filter(None, [subcommand]), "--help"]
+        found |= set(OPTION.findall(subprocess.run(words, capture_output=True, text=True).stdout))
+    return found
 
 
 def calls(text: str) -> list[tuple[str, str]]:

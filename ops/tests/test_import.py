@@ -1,6 +1,5 @@
 """Parts, reels, alternates and placements of tables as spreadsheets, ERPs and placement programs
-write them. The files are made up by us after what such programs are known to write: none is of a
-vendor.
+write them: what messages they give, and what a desk says to them.
 """
 from __future__ import annotations
 
@@ -12,196 +11,14 @@ from unittest import mock
 
 import pytest
 from lab.desk import Desk
+from lab.messages import MORNING, message
 from lab.tools import Ended, Word, call_tool, run_tool
+from lab.written import FILES, OF_BOARD, PLACED, REELS_OF_SAP
 from tracedesk import tables
 from tracedesk_ops import imports
 from tracedesk_ops.cmd import importing
 
 AT = datetime.datetime(2026, 3, 2, 6, tzinfo=datetime.timezone.utc)
-REELS_OF_SAP = """Rolle\tMaterial\tLieferantencharge\tMSL\tMenge\tBestellung
-4711-1\tCAP-100N\tL-77\t3\t4.000,000\t45/17
-4711-2\tRES 10K\tL-78\t1\t150\t
-"""
-REELS: list[dict[str, Any]] = [
-    {"Reel": "4711-1", "PartNumber": "CAP-100N", "Lot": "L-77", "Level": "3", "Quantity": 4000},
-    {"Reel": "4711-2", "PartNumber": "RES 10K", "Lot": "L-78", "Level": "1", "Quantity": 150},
-]
-SAP = [{**REELS[0], "Order": "45/17"}, REELS[1]]
-PARTS = [{"PartNumber": "CAP-100N"}, {"PartNumber": "RES 10K"}]
-SHEET = {
-    "Product": "CTRL-A",
-    "Machine": "M1",
-    "Rows": [
-        {"Slot": "1", "PartNumber": "CAP-100N", "Designators": ["C1", "C2"]},
-        {"Slot": "2", "PartNumber": "RES 10K", "Designators": ["R1"]},
-    ],
-}
-OF_BOARD = {"Product": '"CTRL-A"', "Machine": '"M1"'}
-PLACED = """Ref;X;Y;Rot;Comp;Feeder
-C1;1,5;2,25;90;CAP-100N;1
-R1;7;2;0;RES 10K;2
-C2;9;2;0;CAP-100N;1
-"""
-
-# Of each file: what wrote it, its kind, its bytes, a mapping, and the bodies of its messages.
-FILES: list[tuple[str, str, bytes, dict[str, str], list[Any]]] = [
-    (
-        "a German Excel",
-        "parts",
-        "Teilenummer;Größe\r\nCAP-100N;5\r\nRES 10K;\r\n".encode("cp1252"),
-        {},
-        PARTS,
-    ),
-    (
-        "Excel's UTF-8",
-        "parts",
-        b"\xef\xbb\xbf" b'Part Number,Name\r\nCAP-100N,"C, 100n"\r\nRES 10K,R\r\n',
-        {},
-        PARTS,
-    ),
-    (
-        "Excel's Unicode text",
-        "parts",
-        "Part\tName\r\nCAP-100N\tü\r\nRES 10K\tR\r\n".encode("utf-16"),
-        {},
-        PARTS,
-    ),
-    ("Excel with sep=", "parts", b"sep=;\r\nMaterial;x\r\nCAP-100N;1\r\nRES 10K;2\r\n", {}, PARTS),
-    (
-        "a sheet with empty rows",
-        "parts",
-        b";\r\nMaterial;\r\nCAP-100N;\r\n;\r\nRES 10K;\r\n;;\r\n",
-        {},
-        PARTS,
-    ),
-    (
-        "LibreOffice, all quoted",
-        "parts",
-        b'"PartNumber"\n"CAP-100N"\n"RES 10K"\n"CAP-100N"\n',
-        {},
-        PARTS,
-    ),
-    (
-        "a list without a usual name",
-        "parts",
-        b"MATNR|MAKTX\nCAP-100N|C\nRES 10K|R\n",
-        {"PartNumber": "MATNR"},
-        PARTS,
-    ),
-    ("SAP, tabs", "reels", REELS_OF_SAP.encode("cp1252"), {}, SAP),
-    ("SAP, UTF-16", "reels", REELS_OF_SAP.encode("utf-16"), {}, SAP),
-    (
-        "a goods receipt",
-        "reels",
-        b"Reel ID;Part;Lot;Qty\n4711-1;CAP-100N;L-77;4.000,00\n4711-2;RES 10K;L-78;150,0\n",
-        {"Level": '"3"'},
-        [REELS[0], {**REELS[1], "Level": "3"}],
-    ),
-    (
-        "an American ERP",
-        "reels",
-        b'"Batch","Material","Lot Number","MSL","Stock"\n'
-        b'"4711-1","CAP-100N","L-77","3","4,000.00"\n',
-        {},
-        REELS[:1],
-    ),
-    (
-        "attributes of a delivery",
-        "reels",
-        "Reel,Part,Lot,Level,Qty,Date Code,Vendor,MPN\nK,P,L,1,5,2614,Händler,X/Y\n".encode(),
-        {},
-        [
-            {
-                "Reel": "K",
-                "PartNumber": "P",
-                "Lot": "L",
-                "Level": "1",
-                "Quantity": 5,
-                "DateCode": "2614",
-                "Supplier": "Händler",
-                "MakerPart": "X/Y",
-            }
-        ],
-    ),
-    (
-        "level 6 has a label",
-        "reels",
-        b"Reel;Part;Lot;MSL;Qty;Label minutes\nA;P;L;6;5;2880\nB;P;L;3;5;9\n",
-        {},
-        [
-            {
-                "Reel": "A",
-                "PartNumber": "P",
-                "Lot": "L",
-                "Level": "6",
-                "Quantity": 5,
-                "LabelMinutes": 2880,
-            },
-            {"Reel": "B", "PartNumber": "P", "Lot": "L", "Level": "3", "Quantity": 5},
-        ],
-    ),
-    (
-        "a list of substitutes",
-        "alternates",
-        b"Material;Ersatz\r\nCAP-100N;CAP-100N-B\r\n",
-        {},
-        [{"PartNumber": "CAP-100N", "Alternate": "CAP-100N-B"}],
-    ),
-    (
-        "an approved list",
-        "alternates",
-        b"part,alternate,approved by\nA,B,me\nA,C,me\nA,B,you\n",
-        {},
-        [{"PartNumber": "A", "Alternate": "B"}, {"PartNumber": "A", "Alternate": "C"}],
-    ),
-    ("a placement program, ;", "placements", PLACED.encode(), OF_BOARD, [SHEET]),
-    (
-        "a placement program, tabs",
-        "placements",
-        PLACED.replace(";", "\t").encode("cp1252"),
-        OF_BOARD,
-        [SHEET],
-    ),
-    (
-        "several designators in a field",
-        "placements",
-        b"Slot,Part,Designators,Program,Module\n"
-        b'1,CAP-100N,"C1, C2",CTRL-A,M1\n2,RES 10K,R1,CTRL-A,M1\n',
-        {},
-        [SHEET],
-    ),
-    (
-        "two machines in one file",
-        "placements",
-        b"Job;Machine;Slot;Part;RefDes\nX;M1;1;P;C1\nX;M2;1;Q;C2\nX;M1;1;P;C3\n",
-        {},
-        [
-            {
-                "Product": "X",
-                "Machine": "M1",
-                "Rows": [{"Slot": "1", "PartNumber": "P", "Designators": ["C1", "C3"]}],
-            },
-            {
-                "Product": "X",
-                "Machine": "M2",
-                "Rows": [{"Slot": "1", "PartNumber": "Q", "Designators": ["C2"]}],
-            },
-        ],
-    ),
-    (
-        "names of its own",
-        "placements",
-        b"#;Bauteil;Spur;Name\n1;P;7;C1\n",
-        {**OF_BOARD, "PartNumber": "Bauteil", "Slot": "Spur", "Designator": "Name"},
-        [
-            {
-                "Product": "CTRL-A",
-                "Machine": "M1",
-                "Rows": [{"Slot": "7", "PartNumber": "P", "Designators": ["C1"]}],
-            }
-        ],
-    ),
-]
 
 
 def messages(
@@ -313,18 +130,46 @@ class Erp:
         self.desk, self.folder, self.at = desk, folder, AT
         desk.serve()
 
-    def send(self, kind: str, text: str, *more: str) -> Ended:
+    def send(self, kind: str, table: str | bytes, *more: str) -> Ended:
         """A minute after the call before: within a minute the desk repeats its first answer."""
-        (self.folder / "table.csv").write_text(text)
+        file = self.folder / "table.csv"
+        file.write_bytes(table.encode() if isinstance(table, str) else table)
         self.at += datetime.timedelta(minutes=1)
         with mock.patch.object(importing, "now", lambda: self.at):
-            file = self.folder / "table.csv"
             return call_tool("importing", kind, file, "--url", self.desk.url, *more)
+
+    def number(self) -> int:
+        """How many commands the desk has accepted, one more for this question."""
+        return int(self.desk.say("ClockSet", time=f"{self.at:%Y-%m-%dT%H:%M:%SZ}")["Number"])
 
 
 @pytest.fixture
 def erp(desk: Desk, folder: pathlib.Path) -> Erp:
     return Erp(desk, folder)
+
+
+@pytest.mark.parametrize("it", FILES, ids=[it[0] for it in FILES])
+def test_a_second_run_of_a_file_changes_nothing(
+    erp: Erp, it: tuple[str, str, bytes, dict[str, str], list[Any]]
+) -> None:
+    """The desk accepts each message of the first run, and no command of the second."""
+    _, kind, data, mapping, wanted = it
+    (erp.folder / "columns").write_text("".join(f"{a} = {b}\n" for a, b in mapping.items()))
+    for part in {} if kind == "parts" else parts_in(wanted):
+        erp.desk.accept(message("PartDefined", f"p-{part}", MORNING, PartNumber=part))
+    words = "--columns", str(erp.folder / "columns")
+    erp.send(kind, data, *words).expect(0, f"{len(wanted)} accepted, 0 known, 0 refused")
+    before = erp.number()
+    erp.send(kind, data, *words).expect(0, f"0 accepted, {len(wanted)} known, 0 refused")
+    assert erp.number() == before + 1
+
+
+def parts_in(told: Any) -> set[str]:
+    """The part numbers in bodies."""
+    if isinstance(told, list):
+        return {part for it in told for part in parts_in(it)}
+    its = {told[name] for name in ("PartNumber", "Alternate") if name in told}
+    return its | parts_in(told.get("Rows", []))
 
 
 def test_a_second_call_changes_nothing(erp: Erp) -> None:
@@ -340,6 +185,23 @@ def test_a_second_call_changes_nothing(erp: Erp) -> None:
     erp.send("placements", PLACED, *words).expect(0, "0 accepted, 1 known, 0 refused")
     erp.send("placements", PLACED, *words, "--again").expect(0, "1 accepted")
     assert "4711-1,CAP-100N,L-77,3,4000" in erp.desk.get("/reel?reel=4711-1")[1]
+
+
+@pytest.mark.parametrize(
+    "kind, table, named",
+    [
+        ("alternates", "Part;Ersatz\nA;B\nA;Z\nY;B\n", ["line 3: A Z", "line 4: Y B"]),
+        ("reels", HEAD + "K;A;L;1;5\nM;Z;L;1;5\nN;Y;L;1;5\n", ["line 3: M", "line 4: N"]),
+        ("placements", "Ref;Part;Slot;Job;Module\nC1;A;1;P;M\nC2;Z;1;Q;M\n", ["line 3: Q M"]),
+    ],
+)
+def test_each_refused_row_is_named(erp: Erp, kind: str, table: str, named: list[str]) -> None:
+    """Also by the second run, which sends them again."""
+    erp.send("parts", "Part\nA\nB\n").expect()
+    for counted in ("1 accepted, 0 known", "0 accepted, 1 known"):
+        done = erp.send(kind, table).expect(1, f"{counted}, {len(named)} refused")
+        lines = [it for it in done.out.splitlines() if "is refused" in it]
+        assert [it.partition(" is refused: refused: UnknownPart")[0] for it in lines] == named
 
 
 def test_what_the_desk_refuses_is_named_with_its_line(erp: Erp) -> None:
@@ -362,7 +224,8 @@ def test_nothing_is_sent_of_a_file_with_a_wrong_row(erp: Erp) -> None:
     erp.send("parts", "Part\nA\n").expect(0, "1 accepted, 0 known")
 
 
-def test_a_dry_run_sends_nothing(erp: Erp, folder: pathlib.Path) -> None:
+def test_a_dry_run_sends_nothing(erp: Erp) -> None:
+    words = "--product", "X", "--machine", "M1", "--dry-run"
     erp.send("parts", "Part\nCAP-100N\n", "--dry-run").expect(0, '"PartNumber":"CAP-100N"')
     erp.send("parts", "Part\nCAP-100N\nRES 10K\n").expect(0, "2 accepted")
     erp.send("reels", REELS_OF_SAP.rpartition("4711-2")[0]).expect(0, "1 accepted")
@@ -371,6 +234,9 @@ def test_a_dry_run_sends_nothing(erp: Erp, folder: pathlib.Path) -> None:
         "the desk has it: part CAP-100N, lot L-77",
         "it is new",
     ]
+    erp.send("placements", PLACED, *words).expect(0, "}  it is new")
+    erp.send("placements", PLACED, *words[:-1]).expect(0, "1 accepted")
+    erp.send("placements", PLACED, *words).expect(0, "}  it takes the place of the desk's sheet")
     erp.desk.end()
     erp.send("reels", REELS_OF_SAP, "--dry-run").expect(0, "the desk isn't asked")
 
@@ -384,7 +250,10 @@ def test_a_bad_command_line_is_refused(folder: pathlib.Path) -> None:
         ["parts", folder / "table.csv", "--columns", folder / "map"],
         ["parts", folder / "table.csv", "--url", "ftp://x"],
         ["parts", folder / "table.csv", "--user", "x"],
+        ["parts", folder / "table.csv", "--url", "https://x", "--ca", folder / "none"],
+        ["parts", folder / "table.csv", "--user", "x", "--password-file", folder / "none"],
+        ["parts", folder / "table.csv", "--user", "x", "--password-file", folder / "map"],
         ["reels", folder / "table.csv"],
     ]
     for its in bad:
-        assert "Traceback" not in run_tool("import", *its).expect(2).said
+        assert "Traceback" not in run_tool("ops", "import", *its).expect(2).said

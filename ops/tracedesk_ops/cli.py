@@ -6,6 +6,7 @@ usage: tracedesk-ops make LINE [--from FOLDER]
        tracedesk-ops restore LINE [FILE] [--dry-run]
        tracedesk-ops rollover LINE [--due | --if-due] [--pieces N] [--with-board-in-work]
                                    [--at TIME] [--no-loads]
+       tracedesk-ops import ..    see tracedesk-ops import --help
 
   make      makes the first desk of a line, an empty one; or takes a folder of 1.0.0 over: its desk
             with its archives, and what restores had put aside
@@ -15,6 +16,7 @@ usage: tracedesk-ops make LINE [--from FOLDER]
             one that is named, by some of its digits too
   rollover  seals the desk, and puts a new one in its place that goes on from the sealed file, so
             that starts stay quick
+  import    sends a desk the parts, alternates, reels or placements of a table
 
 LINE is its folder, or the name of one in /var/lib/tracedesk.
 
@@ -46,8 +48,10 @@ failure.
 from __future__ import annotations
 
 import argparse
+import importlib
 import os
 import pathlib
+import sys
 from collections.abc import Callable, Sequence
 
 from tracedesk_ops import carry, change, check, lineage, options, places, plant
@@ -178,6 +182,10 @@ SUBCOMMANDS: dict[str, Callable[[argparse.Namespace], int]] = {
 }
 
 
+# Subcommands without a line's folder: each is a module of cmd, with words of its own.
+APART = {"import": "importing"}
+
+
 def line_named(name: str) -> LineFolder:
     """The folder of a line."""
     path = Path(name) if "/" in name else places.HOME / name
@@ -272,6 +280,8 @@ def offer_rollover(reader: argparse.ArgumentParser) -> None:
 
 
 def main() -> int:
+    if apart := APART.get("".join(sys.argv[1:2])):
+        return int(importlib.import_module(f"tracedesk_ops.cmd.{apart}").main(sys.argv[2:]))
     asked = words()
     plant.ends_by_exception()
     os.umask(0o077)

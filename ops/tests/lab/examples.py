@@ -8,9 +8,11 @@ from typing import Iterator, NamedTuple
 
 from lab import OPS, ROOT
 from lab.tools import SENDER
+from tracedesk_ops import cli
 
 BRIDGE = ROOT / "examples/bridge/tracedesk-bridge"
 TOOLS = {path.name: path for path in (*sorted(OPS.glob("tracedesk-*")), SENDER, BRIDGE)}
+OF_LINES = "tracedesk-ops"
 OPERATORS = re.compile(r"[|&;]+")
 
 
@@ -21,8 +23,10 @@ class Example(NamedTuple):
     text: str
 
 
-def help_of(tool: str) -> str:
-    done = subprocess.run([TOOLS[tool], "--help"], capture_output=True, text=True, check=True)
+def help_of(tool: str, *subcommand: str) -> str:
+    done = subprocess.run(
+        [TOOLS[tool], *subcommand, "--help"], capture_output=True, text=True, check=True
+    )
     return done.stdout
 
 
@@ -59,7 +63,9 @@ def calls_in(example: Example) -> Iterator[list[str]]:
 
 @functools.cache
 def all_examples() -> list[Example]:
-    return [it for tool in TOOLS for it in examples_in(tool, help_of(tool))]
+    texts = [(tool, help_of(tool)) for tool in TOOLS]
+    texts += [(OF_LINES, help_of(OF_LINES, it)) for it in cli.APART]
+    return [it for its in texts for it in examples_in(*its)]
 
 
 def place_of(tool: str) -> pathlib.Path:

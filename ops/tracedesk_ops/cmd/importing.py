@@ -1,16 +1,16 @@
 """Sends a desk the parts, alternates, reels or placements of a table in CSV, as a spreadsheet, an
 ERP or a placement program writes it.
 
-usage: tracedesk-import KIND FILE [--columns FILE] [--product NAME] [--machine NAME]
+usage: tracedesk-ops import KIND FILE [--columns FILE] [--product NAME] [--machine NAME]
        [--decimal comma | point] [--dry-run] [--again] [--source NAME] [--url URL] [--ca FILE]
        [--user NAME --password-file FILE]
 
 examples:
-  tracedesk-import parts parts.csv --dry-run
-  tracedesk-import reels delivery.csv --columns delivery.columns
-  tracedesk-import placements ctrl-a.csv --product CTRL-A --machine M1
-  tracedesk-import alternates alternates.csv --url https://desk.plant --ca server.crt --user erp \\
-      --password-file erp.password
+  tracedesk-ops import parts parts.csv --dry-run
+  tracedesk-ops import reels delivery.csv --columns delivery.columns
+  tracedesk-ops import placements ctrl-a.csv --product CTRL-A --machine M1
+  tracedesk-ops import alternates alternates.csv --url https://desk.plant --ca server.crt \\
+      --user erp --password-file erp.password
 
 KIND is parts, alternates, reels or placements. The delimiter (; , tab |), quotes and the encoding
 (UTF-8, UTF-16, Windows' own) of FILE are found. Columns are known by usual names, in English and
@@ -26,7 +26,7 @@ again, also where another one has replaced it since: --again does.
 --columns   the names of the columns
 --product, --machine   of placements, where no column has them
 --decimal   what stands before the fraction of a number: else 4.000 may be 4 or 4000, and is wrong
---dry-run   prints the messages and sends none; of reels also whether the desk knows them
+--dry-run   prints the messages and sends none; of reels and sheets also whether the desk has them
 --again     sends as if it were sent for the first time
 --source    who sends (import)
 --url       the desk, or the proxy in front of it (http://127.0.0.1:8080)
@@ -43,8 +43,8 @@ import datetime
 import pathlib
 from collections import Counter
 
-from tracedesk import Desk, GivenUp, NotTaken, NotThere, answers, desk, tables
-from tracedesk_ops import imports, plant, reader_of
+from tracedesk import Desk, GivenUp, NotTaken, NotThere, answers, tables
+from tracedesk_ops import desks, imports, plant
 
 DONE, WRONG, BAD, NO_ANSWER = 0, 1, 2, 3
 DECIMALS = {"comma": ",", "point": "."}
@@ -53,19 +53,16 @@ PATIENCE, QUICK = 60.0, 3.0
 
 
 def reader() -> argparse.ArgumentParser:
-    it = reader_of(__doc__)
+    it = desks.reader_for("import", __doc__)
     it.add_argument("kind", choices=tuple(imports.COLUMNS), metavar="KIND")
     it.add_argument("file", type=pathlib.Path, metavar="FILE")
-    for name in ("columns", "password-file"):
-        it.add_argument(f"--{name}", type=pathlib.Path, metavar="FILE")
-    for name in ("product", "machine", "user"):
+    it.add_argument("--columns", type=pathlib.Path, metavar="FILE")
+    for name in ("product", "machine"):
         it.add_argument(f"--{name}", metavar="NAME")
     it.add_argument("--decimal", choices=tuple(DECIMALS))
     it.add_argument("--dry-run", action="store_true")
     it.add_argument("--again", action="store_true")
     it.add_argument("--source", metavar="NAME", default="import")
-    it.add_argument("--url", metavar="URL", default="http://127.0.0.1:8080")
-    it.add_argument("--ca", metavar="FILE")
     return it
 
 
@@ -99,35 +96,36 @@ def made(asked: argparse.Namespace) -> tuple[list[imports.Made], list[imports.Wr
         raise imports.BadTable(f"{asked.file}: {fault}") from None
 
 
-def desk_of(asked: argparse.Namespace, patience: float) -> Desk:
-    log_in = None
-    if asked.user:
-        log_in = asked.user, asked.password_file.read_text(encoding="utf-8").rstrip("\r\n")
-    trust = desk.trust_of(asked.ca) if asked.url.startswith("https:") else None
-    return Desk(asked.url, trust, log_in, patience=patience, tell=plant.tell)
-
-
 def lines_of(it: imports.Made) -> str:
     several = f"lines {it.lines[0]} to {it.lines[-1]}"
     return several if len(it.lines) > 1 else f"line {it.lines[0]}"
 
 
+def known(its: Desk, kind: str, it: imports.Made) -> str:
+    """What the desk has under the name of a message."""
+    try:
+        if kind == "reels":
+            card = its.reel(it.name)
+            return f"the desk has it: part {card.part}, lot {card.lot}"
+        body = answers.read_object(it.message.text)["MessageBody"]
+        its.kit(body["Product"], body["Machine"], 1)
+        return "it takes the place of the desk's sheet"
+    except NotThere:
+        return "it is new"
+
+
 def shown(asked: argparse.Namespace, found: list[imports.Made]) -> int:
-    """Prints the messages, and of reels whether the desk knows them."""
-    with desk_of(asked, QUICK) as its:
-        is_asked = asked.kind == "reels"
+    """Prints the messages, and what the desk has of them as long as it answers."""
+    with desks.client(asked, QUICK) as its:
+        is_asked = asked.kind in ("reels", "placements")
         for it in found:
-            known = ""
-            if is_asked:
-                try:
-                    card = its.reel(it.name)
-                    known = f"  the desk has it: part {card.part}, lot {card.lot}"
-                except NotThere:
-                    known = "  it is new"
-                except (GivenUp, NotTaken, OSError) as fault:
-                    is_asked = False
-                    plant.tell(f"the desk isn't asked: {fault}")
-            print(f"{lines_of(it)}: {it.message.text.decode()}{known}")
+            more = ""
+            try:
+                more = f"  {known(its, asked.kind, it)}" if is_asked else ""
+            except (GivenUp, NotTaken, OSError) as fault:
+                is_asked = False
+                plant.tell(f"the desk isn't asked: {fault}")
+            print(f"{lines_of(it)}: {it.message.text.decode()}{more}")
     return DONE
 
 
@@ -150,7 +148,7 @@ def said(its: Desk, asked: argparse.Namespace, it: imports.Made) -> tuple[str, s
 def sent(asked: argparse.Namespace, found: list[imports.Made]) -> int:
     """Sends the messages, and reports at the end."""
     counts = Counter({"accepted": 0, "known": 0, "refused": 0})
-    with desk_of(asked, PATIENCE) as its:
+    with desks.client(asked, PATIENCE) as its:
         for it in found:
             what, why = said(its, asked, it)
             counts[what] += 1
@@ -161,12 +159,8 @@ def sent(asked: argparse.Namespace, found: list[imports.Made]) -> int:
 
 
 def main(words: list[str] | None = None) -> int:
-    its = reader()
-    asked = its.parse_args(words)
-    if bool(asked.user) != bool(asked.password_file):
-        its.error("--user wants --password-file FILE")
+    asked = desks.understood(reader(), words)
     try:
-        desk.checked_url(asked.url)
         found, wrong = made(asked)
     except (imports.BadTable, ValueError, OSError) as fault:
         plant.tell(str(fault))
