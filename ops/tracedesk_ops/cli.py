@@ -6,7 +6,7 @@ usage: tracedesk-ops make LINE [--from FOLDER]
        tracedesk-ops restore LINE [FILE] [--dry-run]
        tracedesk-ops rollover LINE [--due | --if-due] [--pieces N] [--with-board-in-work]
                                    [--at TIME] [--no-loads]
-       tracedesk-ops import | label ..    each has a --help of its own
+       tracedesk-ops import | label | events ..    each has a --help of its own
 
   make      makes the first desk of a line, an empty one; or takes a folder of 1.0.0 over: its desk
             with its archives, and what restores had put aside
@@ -18,6 +18,7 @@ usage: tracedesk-ops make LINE [--from FOLDER]
             that starts stay quick
   import    sends a desk the parts, alternates, reels or placements of a table
   label     prints labels of reels, for a label printer
+  events    publishes over MQTT what changes at a line
 
 LINE is its folder, or the name of one in /var/lib/tracedesk.
 
@@ -184,7 +185,7 @@ SUBCOMMANDS: dict[str, Callable[[argparse.Namespace], int]] = {
 
 
 # Subcommands without a line's folder: each is a module of cmd, with words of its own.
-APART = {"import": "importing", "label": "labels"}
+APART = {"import": "importing", "label": "labels", "events": "events"}
 
 
 def line_named(name: str) -> LineFolder:

@@ -31,10 +31,11 @@ def understood(reader: argparse.ArgumentParser, words: list[str] | None) -> argp
     return asked
 
 
-def client(asked: argparse.Namespace, patience: float) -> Desk:
-    """Whom to ask; an answer is waited for so many seconds."""
+def client(asked: argparse.Namespace, patience: float, path: str = "") -> Desk:
+    """Whom to ask, below a path of the URL; an answer is waited for so many seconds."""
     log_in = None
     if asked.user:
         log_in = asked.user, asked.password_file.read_text(encoding="utf-8").rstrip("\r\n")
     trust = desk.trust_of(asked.ca) if asked.url.startswith("https:") else None
-    return Desk(asked.url, trust, log_in, patience=patience, tell=plant.tell)
+    url = asked.url.rstrip("/") + path
+    return Desk(url, trust, log_in, patience=patience, timeout=patience, tell=plant.tell)

@@ -3,76 +3,17 @@ python3-paho-mqtt.
 """
 from __future__ import annotations
 
-import contextlib
-import importlib
 import json
-import pathlib
 import subprocess
 import time
-import uuid
-from typing import Any, Optional
 
 import pytest
 from bridge_lab import PATIENCE, Room, line_of, said, start
+from bridge_mosquitto import Mosquitto
 from station_site import certificate
-from tracedesk_dev.ports import free_port
 
 pytestmark = [pytest.mark.needs("mosquitto", "python:paho")]
 TOPIC = "line/m1/said"
-
-
-class Mosquitto:
-    """A broker in a folder, which keeps what it has."""
-
-    def __init__(self, at: pathlib.Path, *more: str) -> None:
-        self.at, self.port = at, free_port()
-        self.running: Optional[subprocess.Popen[bytes]] = None
-        at.mkdir()
-        lines = [f"listener {self.port} 127.0.0.1", "persistence true", "autosave_on_changes true"]
-        lines += ["autosave_interval 1", f"persistence_location {at}/", "user root", *more]
-        (at / "mosquitto.conf").write_text("\n".join([*lines, ""]))
-        self.words: list[Any] = ["--broker", f"mqtt://127.0.0.1:{self.port}", "--topic", "line/#"]
-
-    def start(self) -> None:
-        words: list[Any] = ["/usr/sbin/mosquitto", "-c", self.at / "mosquitto.conf"]
-        with open(self.at / "told.txt", "ab") as told:
-            self.running = subprocess.Popen(words, stdout=told, stderr=told)
-
-    def kill(self) -> None:
-        if self.running:
-            self.running.kill()
-            self.running.wait()
-            self.running = None
-
-    def wait_until_kept(self) -> None:
-        """Waits until all that the broker has by now is in its file, by a mark that comes last."""
-        mqtt = importlib.import_module("paho.mqtt.client")
-        mark, file = uuid.uuid4().hex.encode(), self.at / "mosquitto.db"
-        client, end = mqtt.Client(), time.monotonic() + PATIENCE
-        client.connect("127.0.0.1", self.port)
-        client.loop_start()
-        client.publish("mark", mark, qos=1, retain=True).wait_for_publish(PATIENCE)
-        client.disconnect()
-        client.loop_stop()
-        while not file.exists() or mark not in file.read_bytes():
-            assert time.monotonic() < end, (self.at / "told.txt").read_text()
-            time.sleep(0.05)
-
-    def send(self, *messages: bytes, quality: int = 1) -> None:
-        """Publishes messages, and comes back once the broker has them."""
-        mqtt = importlib.import_module("paho.mqtt.client")
-        client, end = mqtt.Client(), time.monotonic() + PATIENCE
-        while True:
-            with contextlib.suppress(OSError):
-                client.connect("127.0.0.1", self.port)
-                break
-            assert time.monotonic() < end, (self.at / "told.txt").read_text()
-            time.sleep(0.1)
-        client.loop_start()
-        for message in messages:
-            client.publish(TOPIC, message, qos=quality).wait_for_publish(PATIENCE)
-        client.disconnect()
-        client.loop_stop()
 
 
 def follow(room: Room, broker: Mosquitto) -> None:
@@ -103,12 +44,12 @@ def test_a_bridge_or_a_broker_killed_at_each_record_loses_and_doubles_none(room:
     broker = Mosquitto(room.at / "broker", "allow_anonymous true", "log_type all")
     try:
         broker.start()
-        broker.send()
+        broker.send(TOPIC)
         follow(room, broker)
         wanted = []
         for number in range(1, 13):
             name = f"u{number:02}"
-            broker.send(start(name))
+            broker.send(TOPIC, start(name))
             wanted.append(name)
             end = time.monotonic() + PATIENCE
             while len(everything(room)) < number:
@@ -123,7 +64,7 @@ def test_a_bridge_or_a_broker_killed_at_each_record_loses_and_doubles_none(room:
             else:
                 room.end()
                 follow(room, broker)
-        broker.send(line_of(said("CFX.Heartbeat")), b"{", start("last"))
+        broker.send(TOPIC, line_of(said("CFX.Heartbeat")), b"{", start("last"))
         end = time.monotonic() + PATIENCE
         while everything(room) != [*wanted, "last"]:
             assert time.monotonic() < end, (everything(room), (room.at / "said.txt").read_text())
@@ -151,7 +92,7 @@ def test_what_is_wrong_at_the_broker_is_reported(room: Room, more: list[str], wh
         end = time.monotonic() + PATIENCE
         while why not in (room.at / "said.txt").read_text():
             if more:
-                broker.send(start("a"), quality=0)
+                broker.send(TOPIC, start("a"), quality=0)
             assert time.monotonic() < end, (room.at / "said.txt").read_text()
             time.sleep(0.2)
     finally:
