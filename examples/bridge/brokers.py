@@ -1,4 +1,4 @@
-"""Takes the messages of a queue of an AMQP 1.0 broker."""
+"""Takes the messages of a broker: what all brokers have in common, and a queue of AMQP 1.0."""
 from __future__ import annotations
 
 import argparse
@@ -8,7 +8,7 @@ import importlib
 import json
 import time
 import zlib
-from typing import Any, Iterable
+from typing import Any, Deque, List, NoReturn, Tuple, Type
 
 from bridge import Bridge
 from tracedesk import console
@@ -16,7 +16,70 @@ from tracedesk import console
 LOOK = 0.2  # seconds without a message, after which the bridge looks around
 LONGEST = 1 << 26  # bytes of a message, once it is unpacked
 HEARTBEAT = 30  # seconds
+TRUSTED = "/etc/ssl/certs/ca-certificates.crt"
 FIRST_PAUSE, LONGEST_PAUSE = 0.2, 10.0  # seconds without a broker
+
+
+class Source:
+    """A broker that is asked again, without an end, whenever its connection breaks: what isn't
+    acknowledged comes again. `asked` has the words of the command line.
+    """
+
+    module, package = "", ""  # of Python, and of Debian
+    faults: Tuple[Type[Exception], ...] = (OSError, ValueError)
+
+    def __init__(self, bridge: Bridge, asked: argparse.Namespace) -> None:
+        try:
+            self.its: Any = importlib.import_module(self.module)
+        except ImportError as fault:
+            why = f"{fault}: apt-get install {self.package}, and start this by /usr/bin/python3"
+            raise ImportError(why) from None
+        self.bridge, self.asked = bridge, asked
+        self.pause, self.why = FIRST_PAUSE, ""
+        # what isn't acknowledged yet, each with its messages in the spool
+        self.open: Deque[Tuple[int, List[str]]] = collections.deque()
+
+    def connected(self) -> Any:
+        """A connection."""
+
+    def take(self, link: Any) -> None:
+        """Takes from a connection, until it breaks."""
+
+    def acknowledge(self, link: Any, number: int) -> None:
+        """Acknowledges a message."""
+
+    def end(self, link: Any) -> None:
+        """Ends a connection."""
+
+    def is_answered(self) -> bool:
+        """Whether the answers to what came first are on disk."""
+        return bool(self.open) and all(map(self.bridge.kept.is_answered, self.open[0][1]))
+
+    def acknowledge_all(self, link: Any) -> None:
+        """What came first is acknowledged first, once its answers are on disk."""
+        while self.is_answered():
+            self.acknowledge(link, self.open.popleft()[0])
+            self.pause, self.why = FIRST_PAUSE, ""
+
+    def run(self) -> NoReturn:
+        while True:
+            link = None
+            try:
+                link = self.connected()
+                self.take(link)
+            except self.faults as fault:
+                why = str(fault) or repr(fault)
+                if why != self.why:
+                    console.tell(f"{self.asked.broker}: {why}. It is asked again")
+                self.why = why
+            # what is broken is closed with errors of many kinds
+            with contextlib.suppress(Exception):
+                self.end(link)
+            time.sleep(self.pause)
+            self.pause = min(2 * self.pause, LONGEST_PAUSE)
+
+
+# --- The bytes of a message
 
 
 def plain(value: Any) -> Any:
@@ -53,6 +116,9 @@ def unzipped(data: bytes) -> bytes:
     return data
 
 
+# --- AMQP 1.0
+
+
 def message_of(proton: Any) -> Any:
     """Messages whose body is what came, where that can't be read, as a text that is no UTF-8."""
 
@@ -85,75 +151,41 @@ def connection_of(proton: Any) -> Any:
     return Connection
 
 
-class Queue:
-    """A queue of a broker. `asked` has the words of the command line."""
+class Queue(Source):
+    """A queue of a broker of AMQP 1.0."""
 
-    def __init__(self, bridge: Bridge, asked: argparse.Namespace) -> None:
-        try:
-            proton = importlib.import_module("proton")
-        except ImportError as fault:
-            raise ImportError(
-                f"{fault}: apt-get install python3-qpid-proton, and start this by /usr/bin/python3"
-            ) from None
-        self.proton: Any = proton
-        self.bridge, self.asked = bridge, asked
-        self.pause, self.why = FIRST_PAUSE, ""
+    module, package = "proton", "python3-qpid-proton"
 
-    def connect(self) -> Any:
-        asked, domain = self.asked, None
+    def connected(self) -> Any:
+        asked, domain, proton = self.asked, None, self.its
+        self.faults = proton.ProtonException, OSError
         if asked.broker.startswith("amqps:"):
-            domain = self.proton.SSLDomain(self.proton.SSLDomain.MODE_CLIENT)
-            domain.set_trusted_ca_db(asked.ca or "/etc/ssl/certs/ca-certificates.crt")
-            domain.set_peer_authentication(self.proton.SSLDomain.VERIFY_PEER_NAME)
-        who = (
-            {"user": asked.user, "password": asked.password, "allowed_mechs": "PLAIN"}
-            if asked.user
-            else {"allowed_mechs": "ANONYMOUS"}
-        )
-        return connection_of(self.proton)(
+            domain = proton.SSLDomain(proton.SSLDomain.MODE_CLIENT)
+            domain.set_trusted_ca_db(asked.ca or TRUSTED)
+            domain.set_peer_authentication(proton.SSLDomain.VERIFY_PEER_NAME)
+        who = {"allowed_mechs": "ANONYMOUS"}
+        if asked.user:
+            who = {"user": asked.user, "password": asked.password, "allowed_mechs": "PLAIN"}
+        return connection_of(proton)(
             asked.broker, timeout=20, ssl_domain=domain, heartbeat=HEARTBEAT, **who
         )
 
-    def is_answered(self, names: Iterable[str]) -> bool:
-        return all(map(self.bridge.kept.is_answered, names))
+    def acknowledge(self, link: Any, number: int) -> None:
+        link.accept()
+
+    def end(self, link: Any) -> None:
+        link.close()
 
     def take(self, link: Any) -> None:
-        """Takes from a connection. What came first is acknowledged first, once its answers are on
-        disk.
-        """
         receiver = link.create_receiver(self.asked.queue, credit=0)
-        open_ones: collections.deque[list[str]] = collections.deque()
+        self.open.clear()
         while True:
-            while open_ones and self.is_answered(open_ones[0]):
-                open_ones.popleft()
-                receiver.accept()
-                self.pause, self.why = FIRST_PAUSE, ""
+            self.acknowledge_all(receiver)
             self.bridge.look()
-            with contextlib.suppress(self.proton.Timeout):
-                if len(open_ones) < self.asked.window:
-                    message = receiver.receive(timeout=0.02 if open_ones else LOOK)
+            with contextlib.suppress(self.its.Timeout):
+                if len(self.open) < self.asked.window:
+                    message = receiver.receive(timeout=0.02 if self.open else LOOK)
                     came = self.bridge.take(unpacked(message), self.asked.queue)
-                    open_ones.append(came.names)
+                    self.open.append((0, came.names))
                 else:
-                    link.wait(lambda: self.is_answered(open_ones[0]), timeout=LOOK)
-
-    def run(self) -> None:
-        """Takes without an end, and connects again whenever that breaks: what isn't acknowledged
-        comes again.
-        """
-        while True:
-            link = None
-            try:
-                link = self.connect()
-                self.take(link)
-            except (self.proton.ProtonException, OSError) as fault:
-                why = str(fault) or repr(fault)
-                if why != self.why:
-                    console.tell(f"{self.asked.broker}: {why}. It is asked again")
-                self.why = why
-            if link is not None:
-                # proton closes what is broken with errors of many kinds
-                with contextlib.suppress(Exception):
-                    link.close()
-            time.sleep(self.pause)
-            self.pause = min(2 * self.pause, LONGEST_PAUSE)
+                    link.wait(self.is_answered, timeout=LOOK)

@@ -41,6 +41,10 @@ SETTLES = 2.0  # seconds after a change of the folder, in which another one may 
 UNFINISHED = 5.0  # seconds that the next file waits for the end of a line of such a file
 
 Told = Dict[str, Any]  # what is kept of a file
+KEPT: dict[str, dict[str, type]] = {
+    "Files": {"At": int, "Head": str, "Before": str, "Inode": int},
+    "Known": {"Head": str, "Inode": int, "Size": int},
+}
 
 
 def take_lines(bridge: Bridge, stream: BinaryIO) -> None:
@@ -73,19 +77,19 @@ class Opened:
 
     def __init__(self, path: pathlib.Path, told: Optional[Told] = None) -> None:
         self.file, self.id = open_log(path)
+        self.begin()
+        # by what the packed file is known again, once it is read
+        self.packed: Optional[Told] = None
+        if told:
+            self.at, size = told["At"], min(told["At"], BEFORE)
+            self.head = os.pread(self.file.fileno(), size, 0)
+            self.last = os.pread(self.file.fileno(), size, self.at - size)
+
+    def begin(self) -> None:
+        """Nothing of it is read."""
         self.at, self.head, self.last, self.rest, self.since = 0, b"", b"", b"", time.monotonic()
         self.taken = b""  # what was taken of a line that has no end
         self.counted = 0, 0  # so many bytes have so many lines
-        self.packed: Optional[
-            Told
-        ] = None  # by what the packed file is known again, once it is read
-        if told:
-            at = told["At"]
-            self.at, self.head, self.last = (
-                at,
-                os.pread(self.file.fileno(), min(at, BEFORE), 0),
-                os.pread(self.file.fileno(), min(at, BEFORE), max(0, at - BEFORE)),
-            )
 
     def told(self) -> Told:
         """What is kept of it."""
@@ -114,14 +118,7 @@ class Opened:
                 got[: len(self.last)] != self.last
                 or os.pread(handle, len(self.head), 0) != self.head
             ):
-                self.at, self.head, self.last, self.rest, self.taken, self.since = (
-                    0,
-                    b"",
-                    b"",
-                    b"",
-                    b"",
-                    time.monotonic(),
-                )
+                self.begin()
                 continue
             got = got[len(self.last) :]
             whole = got[: got.rfind(b"\n") + 1]
@@ -136,8 +133,6 @@ class Opened:
 
     def lines_before(self) -> int:
         """How many lines were read."""
-        if self.counted[0] > self.at:
-            self.counted = 0, 0
         while self.counted[0] < self.at:
             most = min(PIECE, self.at - self.counted[0])
             piece = os.pread(self.file.fileno(), most, self.counted[0])
@@ -154,11 +149,8 @@ class Opened:
         """Counts these lines as read."""
         if lines:
             self.head = (self.head + lines)[:BEFORE] if len(self.head) < BEFORE else self.head
-            self.at, self.last, self.since = (
-                self.at + len(lines),
-                (self.last + lines)[-BEFORE:],
-                time.monotonic(),
-            )
+            self.last = (self.last + lines)[-BEFORE:]
+            self.at, self.since = self.at + len(lines), time.monotonic()
 
 
 def open_log(path: pathlib.Path) -> tuple[IO[bytes], tuple[int, int]]:
@@ -195,24 +187,15 @@ def begins_so(head: bytes, known: Told) -> bool:
 
 
 def read_position(spool: Spool) -> dict[str, Any]:
-    """How far the files of a spool were read, by their paths. Up to version 0.3.0 there was no list
-    of known files.
-    """
+    """How far the files of a spool were read, by their paths."""
     place = spool.folder / ".position"
     try:
         told: dict[str, Any] = json.loads(place.read_text())
         for mine in told.values():
-            files, known = (mine, []) if isinstance(mine, list) else (mine["Files"], mine["Known"])
-            if any(
-                type(it[name]) is not kind
-                for it in files
-                for name, kind in (("At", int), ("Head", str), ("Before", str), ("Inode", int))
-            ) or any(
-                type(it[name]) is not kind
-                for it in known
-                for name, kind in (("Head", str), ("Inode", int), ("Size", int))
-            ):
-                raise ValueError
+            for name, members in KEPT.items():
+                for it in mine[name]:
+                    if any(type(it[member]) is not kind for member, kind in members.items()):
+                        raise ValueError
         return told
     except FileNotFoundError:
         return {}
@@ -242,22 +225,12 @@ class Following:
     ) -> None:
         self.bridge, self.path, self.all, self.follows = bridge, path.absolute(), position, follows
         self.rotated = re.compile(fnmatch.translate(rotated) if rotated else usual_names(path))
-        mine = position.get(str(self.path))
-        self.known: list[Told] = (
-            mine["Known"]
-            if isinstance(mine, dict)
-            else [
-                identity(there.st_ino, head_of(it))
-                for it, there in self.candidates()
-                if mine is None
-                or there.st_mtime_ns < max((file.get("Time", 0) for file in mine), default=0)
-            ]
-        )
-        self.files = [
-            it
-            for it in map(self.found, mine["Files"] if isinstance(mine, dict) else mine or ())
-            if it
-        ]
+        mine = position.get(str(self.path)) or {
+            "Files": [],
+            "Known": [identity(there.st_ino, head_of(it)) for it, there in self.candidates()],
+        }
+        self.known: list[Told] = mine["Known"]
+        self.files = [it for it in map(self.found, mine["Files"]) if it]
         self.kept: Optional[list[Told]] = None
         self.folder: Optional[int] = None  # when it was changed, by its own clock
         self.unreadable: dict[pathlib.Path, float] = {}

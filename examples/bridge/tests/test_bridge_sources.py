@@ -14,7 +14,6 @@ import types
 from typing import Any
 
 import brokers
-import keeping
 import logs
 import pytest
 from bridge_lab import SIMPLE, Room, line_of, said, start
@@ -163,22 +162,6 @@ def test_a_damaged_position_ends_the_run(room: Room, harm: str) -> None:
     room.run(room.file)
     (room.spool / ".position").write_text(harm.replace("F", str(room.file), 1))
     assert b".position is damaged" in room.run(room.file, status=2).stderr
-
-
-def test_a_position_of_version_0_3_0_is_read(room: Room) -> None:
-    room.file.write_bytes(start("c") + b"\n")
-    room.run(room.file)
-    old = {
-        "At": room.file.stat().st_size,
-        "Head": keeping.digest(room.file.read_bytes()),
-        "Before": keeping.digest(room.file.read_bytes()),
-        "Inode": room.file.stat().st_ino,
-        "Time": time.time_ns(),
-    }
-    (room.spool / ".position").write_text(json.dumps({str(room.file): [old]}))
-    assert (
-        b" 0 read" in (done := room.run(room.file)).stderr
-    ), f"a position of version 0.3.0: {done.stderr.decode()}"
 
 
 def test_what_passes_is_waited_out(room: Room) -> None:
