@@ -25,7 +25,7 @@ import time
 from typing import Any
 
 import killed
-from bridge_lab import MACHINE, Room, elements_of, line_of, one_lane, ours, said
+from bridge_lab import MACHINE, Room, elements_of, line_of, ours, said
 from filters import Filter
 from fronts import json_records
 from tracedesk_dev import ROOT
@@ -174,7 +174,6 @@ class Run(killed.Run):
         killed.Run.__init__(self, program, at, seed, kills)
         self.room, self.file, self.port = Room(at), at / "said.log", free_port()
         self.day = DayOf(seed, panels).whole()
-        self.room.table.write_text(one_lane())
         self.wanted_dead: list[bytes] = []
         table = Filter(self.room.table)
         wanted: dict[bytes, None] = {}

@@ -23,29 +23,6 @@ def line_of(message: Any) -> bytes:
     return json.dumps(message, separators=(",", ":")).encode()
 
 
-# A filter for machines that start each board, by which most tests are made.
-SIMPLE = """
-def machines: {"Vendor1.Model1.Machine34": "M1", "Vendor1.Oven1.Oven7": null};
-def words: {"CFX.Production.WorkStarted": "WorkStarted", "CFX.Production.WorkCompleted":
-  "WorkCompleted", "CFX.Production.Assembly.MaterialsInstalled": "MaterialsInstalled"};
-def name($what): if type == "string" then . elif type == "number" then tostring
-  elif . == null then error("\\($what) is not there") else error("\\($what) is no text") end;
-. as $m | (.MessageName | name("MessageName")) as $name | words[$name] as $word
-| if $word == null then empty else
-  (if machines | has($m.Source) then machines[$m.Source]
-   else error("machines don't have \\($m.Source)") end) as $machine
-  | def said($uid; $body): {MessageName: "TraceDesk.\\($word)", UniqueID: $uid, Source: .Source,
-      TimeStamp: (.TimeStamp | name("TimeStamp")), MessageBody: ({Machine: $machine} + $body)};
-  if $machine == null then empty
-  elif $word != "MaterialsInstalled" then
-    said(.UniqueID; {Board: (.MessageBody.PrimaryIdentifier | name("PrimaryIdentifier"))})
-  else (.MessageBody.InstalledMaterials | to_entries[] | select(.value.InstalledComponents != []))
-    as $unit | said("\\(.UniqueID)-\\($unit.key + 1)";
-      {Board: ($unit.value.UnitIdentifier | name("UnitIdentifier")),
-       Designators: [$unit.value.InstalledComponents[].ReferenceDesignator]}) end end
-"""
-
-
 def one_lane() -> str:
     """The example for a machine with one lane."""
     return EXAMPLE.read_text().replace('machine: "M1", lanes: 2', 'machine: "M1", lanes: 1')
@@ -84,20 +61,6 @@ def start(uid: str, **more: Any) -> bytes:
     )
 
 
-def installed(*units: tuple[Any, list[str]]) -> dict[str, Any]:
-    """An install of the simple filter: units, each with its designators."""
-    return said(
-        "CFX.Production.Assembly.MaterialsInstalled",
-        InstalledMaterials=[
-            {
-                "UnitIdentifier": board,
-                "InstalledComponents": [{"ReferenceDesignator": it} for it in names],
-            }
-            for board, names in units
-        ],
-    )
-
-
 def elements_of(board: str, slot: str, pieces: Iterable[tuple[str, Any]]) -> list[dict[str, Any]]:
     """What a machine says of the pieces of a unit from one slot, after IPC's SDK: an element for
     each unit and material.
@@ -125,7 +88,7 @@ class Room:
     def __init__(self, at: pathlib.Path) -> None:
         self.at, self.spool = at, at / "spool"
         self.table, self.file = at / "table.jq", at / "said.log"
-        self.table.write_text(SIMPLE)
+        self.table.write_text(one_lane())
         self.running: Optional[subprocess.Popen[bytes]] = None
 
     def command(self, *more: Any) -> list[Any]:

@@ -10,22 +10,13 @@ from typing import Any, Iterator
 
 import filters
 import pytest
-from bridge_lab import (
-    EXAMPLE,
-    PATIENCE,
-    SIMPLE,
-    Room,
-    elements_of,
-    installed,
-    line_of,
-    one_lane,
-    ours,
-    said,
-)
+from at_port import PATIENCE
+from bridge_lab import EXAMPLE, Room, elements_of, line_of, one_lane, ours, said
 from filters import BadFilter, Filter, NotMapped
 from fronts import json_records
 
 OVEN = "Vendor1.Oven1.Oven7"
+INSTALLED = "CFX.Production.Assembly.MaterialsInstalled"
 STARTED = said("CFX.Production.WorkStarted", PrimaryIdentifier="SN-1")
 
 
@@ -61,7 +52,7 @@ def carrier(*units: tuple[str, str, dict[str, Any]]) -> dict[str, Any]:
     for it in elements:
         if it["Material"]["UniqueIdentifier"] is None:
             del it["Material"]
-    return said("CFX.Production.Assembly.MaterialsInstalled", InstalledMaterials=elements)
+    return said(INSTALLED, InstalledMaterials=elements)
 
 
 def install(number: str, board: str, **pieces: Any) -> bytes:
@@ -81,44 +72,6 @@ def unit(number: str, board: str, **pieces: Any) -> list[bytes]:
     ]
 
 
-WORKED: list[tuple[Any, list[bytes]]] = [
-    (
-        said("CFX.Production.WorkStarted", PrimaryIdentifier="SN-1", Lane=None),
-        [ours("WorkStarted", "u-1", Machine="M1", Board="SN-1")],
-    ),
-    (
-        said("CFX.Production.WorkCompleted", PrimaryIdentifier=117),
-        [ours("WorkCompleted", "u-1", Machine="M1", Board="117")],
-    ),
-    (
-        installed(("SN-1", ["C1", "C2"]), ("SN-1", ["C3"])),
-        [
-            ours(
-                "MaterialsInstalled",
-                "u-1-1",
-                Machine="M1",
-                Board="SN-1",
-                Designators=["C1", "C2"],
-            ),
-            ours("MaterialsInstalled", "u-1-2", Machine="M1", Board="SN-1", Designators=["C3"]),
-        ],
-    ),
-    (
-        installed(("SN-1", []), ("SN-2", ["C3"])),
-        [ours("MaterialsInstalled", "u-1-2", Machine="M1", Board="SN-2", Designators=["C3"])],
-    ),
-    (installed(), []),
-    (said("CFX.Production.WorkStarted", source=OVEN, PrimaryIdentifier="SN-1"), []),
-    (said("CFX.Heartbeat"), []),
-]
-
-
-def test_the_simple_filter_gives_what_was_worked_out(at: Any) -> None:
-    table = at(SIMPLE)
-    for message, wanted in WORKED:
-        assert texts(table, message) == wanted
-
-
 PANEL = carrier(
     *((board, "23", {"C1": "K-1"}) for board in ("P-1-1", "P-1-2", "P-1-3")),
     *((board, "24", {"R1": "K-9"}) for board in ("P-1-1", "P-1-3")),
@@ -132,6 +85,10 @@ ONE_LANE: list[tuple[Any, list[bytes]]] = [
         [install("1", "P-1-1", C1="K-1", C2="K-2")],
     ),
     (carrier(("P-1-1", "23", {"C1": None})), [install("1", "P-1-1", C1=None)]),
+    (carrier(("P-1-1", "23", {})), []),
+    (carrier(), []),
+    (said("CFX.Production.WorkStarted", source=OVEN, PrimaryIdentifier="P-1"), []),
+    (said("CFX.Heartbeat"), []),
     (
         PANEL,
         [
@@ -143,6 +100,10 @@ ONE_LANE: list[tuple[Any, list[bytes]]] = [
         ],
     ),
     (ENDED, [ours("WorkCompleted", "u-1", Machine="M1", Board="P-1-1")]),
+    (
+        said("CFX.Production.WorkCompleted", PrimaryIdentifier=117),
+        [ours("WorkCompleted", "u-1", Machine="M1", Board="117-1")],
+    ),
 ]
 TWO_LANES: list[tuple[Any, list[bytes]]] = [
     (BEGUN, []),
@@ -178,28 +139,28 @@ FAULTS: list[tuple[Any, str]] = [
     (said("CFX.Production.WorkStarted", PrimaryIdentifier=None), "is not there"),
     (said("CFX.Production.WorkStarted", PrimaryIdentifier=["SN-1"]), "is no text"),
     (
-        said("CFX.Production.WorkStarted", PrimaryIdentifier="SN-1 "),
-        "Board: 'SN-1 ' is not a text of",
+        said("CFX.Production.WorkStarted", PrimaryIdentifier=" SN-1"),
+        "Board: ' SN-1-1' is not a text of",
     ),
     (
         said("CFX.Production.WorkStarted", source="Vendor2", PrimaryIdentifier="SN-1"),
-        "machines don't have Vendor2",
+        "Vendor2 is no machine of the filter",
     ),
     (without_time(), "TimeStamp is not there"),
     ({**STARTED, "TimeStamp": "2026-03-02T07:10:59"}, "no time with its offset"),
     ({**STARTED, "TimeStamp": "2026-02-30T07:10:59Z"}, "in no calendar"),
     ({**STARTED, "TimeStamp": "1969-03-02T07:10:59Z"}, "TimeStamp: "),
     ({**STARTED, "UniqueID": "x" * 65}, "UniqueID: "),
-    (installed(("SN-1", ["C 1"])), "Designators: 'C 1' is not a text of"),
-    (installed(("SN-1", ["C1"]), (None, ["C2"])), "UnitIdentifier is not there"),
-    (said("CFX.Production.Assembly.MaterialsInstalled"), "null (null) has no keys"),
+    (carrier(("P-1-1", "23", {"C 1": None})), "Designators: 'C 1' is not a text of"),
+    (said(INSTALLED, InstalledMaterials=[{}]), "UnitIdentifier is not there"),
+    (said(INSTALLED), "InstalledMaterials is not there"),
     ({"UniqueID": "u"}, "MessageName is not there"),
     ("CFX", "no JSON object"),
 ]
 
 
 def test_a_record_with_a_fault_is_refused_with_its_reason(at: Any) -> None:
-    table = at(SIMPLE)
+    table = at(one_lane())
     for message, why in FAULTS:
         with pytest.raises(NotMapped) as fault:
             texts(table, message)
@@ -284,7 +245,7 @@ def test_a_filter_without_an_end_is_ended(at: Any, monkeypatch: pytest.MonkeyPat
 
 
 def test_jq_that_was_killed_is_started_again(at: Any) -> None:
-    table = at(SIMPLE)
+    table = at(one_lane())
     for _ in range(3):
         assert len(texts(table, STARTED)) == 1
         assert table.jq
@@ -309,7 +270,7 @@ def test_a_text_that_is_no_filter_is_refused_with_its_place(at: Any, text: str, 
 def test_without_jq_its_package_is_named(at: Any, monkeypatch: pytest.MonkeyPatch) -> None:
     monkeypatch.setenv("PATH", "/nowhere")
     with pytest.raises(BadFilter) as fault:
-        at(SIMPLE)
+        at(one_lane())
     assert "apt-get install jq" in str(fault.value)
 
 
@@ -322,7 +283,7 @@ def test_without_jq_its_package_is_named(at: Any, monkeypatch: pytest.MonkeyPatc
     ],
 )
 def test_a_time_without_an_offset_is_of_the_zone(at: Any, text: str, utc: str) -> None:
-    (made,) = texts(at(SIMPLE, zone="Europe/Berlin"), {**STARTED, "TimeStamp": text})
+    (made,) = texts(at(one_lane(), zone="Europe/Berlin"), {**STARTED, "TimeStamp": text})
     assert json.loads(made)["TimeStamp"] == utc
 
 
@@ -333,7 +294,6 @@ def test_a_dead_letter_that_is_a_report_has_a_record(room: Room) -> None:
     start = line_of(said("CFX.Production.WorkStarted"))
     twice = start.replace(b'{"MessageName"', b'{"UniqueID":"x","MessageName"')
     loaded = line_of(said("CFX.Materials.Management.MaterialsOpened", Materials=[{}]))
-    room.table.write_text(one_lane())
     given = b"\n".join((start, twice, b"{", loaded, start))
     done = room.run(given=given, status=1)
     assert done.stdout.count(b"dead ") == 5
@@ -360,17 +320,16 @@ def places(value: Any) -> Iterator[tuple[Any, Any]]:
 def test_any_record_is_taken_or_its_fault_has_a_name(at: Any) -> None:
     """Odd values at each place in turn."""
     tried = 0
-    for text, messages in ((SIMPLE, [installed(("SN-1", ["C1"]))]), (one_lane(), [PANEL, BEGUN])):
-        table = at(text)
-        for message in messages:
-            for number in range(len(list(places(message)))):
-                for odd in ODD:
-                    whole = json.loads(json.dumps(message))
-                    inner, name = list(places(whole))[number]
-                    inner[name] = odd
-                    try:
-                        texts(table, whole)
-                    except NotMapped as fault:
-                        assert str(fault) and "jq gave no answer" not in str(fault)
-                    tried += 1
+    table = at(one_lane())
+    for message in (PANEL, BEGUN):
+        for number in range(len(list(places(message)))):
+            for odd in ODD:
+                whole = json.loads(json.dumps(message))
+                inner, name = list(places(whole))[number]
+                inner[name] = odd
+                try:
+                    texts(table, whole)
+                except NotMapped as fault:
+                    assert str(fault) and "jq gave no answer" not in str(fault)
+                tried += 1
     assert tried > 500

@@ -16,7 +16,7 @@ from typing import Any
 import brokers
 import logs
 import pytest
-from bridge_lab import SIMPLE, Room, line_of, said, start
+from bridge_lab import Room, line_of, one_lane, said, start
 
 
 def test_each_line_of_standard_input_is_answered(room: Room) -> None:
@@ -191,7 +191,7 @@ def test_a_refused_report_of_work_is_not_put_in_again(room: Room) -> None:
     """
     load_too = """if .MessageName == "load" then {MessageName: "TraceDesk.MaterialsLoaded", UniqueID,
       Source, TimeStamp, MessageBody: {Machine: "M1", Slot: "1", Reel: .MessageBody.Reel}} else"""
-    table = f"{load_too} {SIMPLE} end"
+    table = f"{load_too} {one_lane()} end"
     load = line_of(said("load", "l", Reel="K-1"))
     room.table.write_text(table)
     room.run(given=start("a") + b"\n" + load + b"\n")
@@ -202,7 +202,7 @@ def test_a_refused_report_of_work_is_not_put_in_again(room: Room) -> None:
     room.run(given=start("a") + b"\n")
     for it in (*(room.spool / "aside").iterdir(), *(room.spool / "sent").iterdir()):
         it.unlink()
-    room.table.write_text(table.replace('"M1", "Vendor1.Oven1', '"M2", "Vendor1.Oven1'))
+    room.table.write_text(table.replace('machine: "M1"', 'machine: "M3"'))
     done = room.run(given=start("a") + b"\n" + load + b"\n")
     assert done.stdout == b"kept 000000000001\nkept 000000000003\n"
     assert room.waiting() == ["l"]
@@ -229,7 +229,7 @@ def test_numbers_that_others_round_keep_their_digits(room: Room) -> None:
         json.loads(it.read_bytes())["MessageBody"]["Board"]
         for it in sorted((room.spool / "waiting").iterdir())
     ]
-    assert boards == [it.decode().replace("17.0", "17") for it in numbers]
+    assert boards == [f"{it.decode()}-1".replace("17.0", "17") for it in numbers]
 
 
 BODIES: list[tuple[Any, Any]] = [
