@@ -1,6 +1,5 @@
-"""Machines as docs/machines.md describes them, by the example of a log: one lane, two lanes,
-modules, panels with bad marks, sides, rework and the end of a tape. A day of each is traced as it
-was placed.
+"""Machines as docs/machines.md describes them, by the example of a log: two lanes, modules, panels
+with bad marks, sides, rework and the end of a tape. A day of each is traced as it was placed.
 """
 from __future__ import annotations
 
@@ -10,7 +9,7 @@ import json
 import pathlib
 import random
 import subprocess
-from typing import Any, Iterator, Optional
+from typing import Any, Iterator
 
 import killed
 import pytest
@@ -67,42 +66,6 @@ def bodies(made: list[bytes]) -> list[tuple[str, dict[str, Any]]]:
     return [(it["MessageName"].removeprefix("TraceDesk."), it["MessageBody"]) for it in told]
 
 
-def placed(board: str, *names: str, reels: Optional[list[Any]] = None) -> Any:
-    more = {"MachineReels": reels} if reels else {}
-    return "MaterialsInstalled", {
-        "Machine": "M1",
-        "Board": board,
-        "Designators": list(names),
-        **more,
-    }
-
-
-def around(board: str, *names: str, **more: Any) -> list[Any]:
-    at = {"Machine": "M1", "Board": board}
-    return [("WorkStarted", at), placed(board, *names, **more), ("WorkCompleted", at)]
-
-
-def test_one_lane(folder: pathlib.Path) -> None:
-    log, at = Log(folder), {"Machine": "M1", "Board": "B1"}
-    assert bodies(log.says("START", Panel="B1")) == [("WorkStarted", at)]
-    made = log.says("PLACE", Panel="B1", Designator="C1", Reel="K-1")
-    assert bodies(made) == [placed("B1", "C1", reels=["K-1"])]
-    assert json.loads(made[0])["TimeStamp"] == "2026-03-02T06:00:14Z"
-    assert bodies(log.says("PLACE", Panel="B1", Designator="C2")) == [placed("B1", "C2")]
-    assert bodies(log.says("END", Panel="B1")) == [("WorkCompleted", at)]
-
-
-def test_two_lanes_by_rows_and_by_files(folder: pathlib.Path) -> None:
-    """A start, an install and a completion for each placed piece, or for each board."""
-    log = Log(folder, around=True)
-    assert log.says("START", Panel="B1") == log.says("END", Panel="B1") == []
-    for board in ("B1", "B2", "B1"):
-        made = log.says("PLACE", Panel=board, Designator="C1", Reel="K-1")
-        assert bodies(made) == around(board, "C1", reels=["K-1"])
-    rows = [log.row("PLACE", Panel="B1", Designator=name) for name in ("C1", "C2")]
-    assert bodies(log.file(*rows)) == around("B1", "C1", "C2")
-
-
 def test_modules_are_machines_of_one_product(folder: pathlib.Path) -> None:
     log = Log(folder, machine='"M1-\\(.Module)"')
     for module in ("1", "2"):
@@ -113,15 +76,6 @@ def test_modules_are_machines_of_one_product(folder: pathlib.Path) -> None:
         (record,) = csv_line(b"x;START;B1", b"Time;Event;Panel")
         log.filter.made(record)
     assert "null" in str(fault.value)
-
-
-def test_a_unit_with_a_bad_mark_has_no_message(folder: pathlib.Path) -> None:
-    log = Log(folder, around=True)
-    rows = [log.row("BAD", Panel="P1", Unit="2")]
-    for unit in ("1", "3"):
-        rows += [log.row("PLACE", Panel="P1", Unit=unit, Designator=it) for it in ("C1", "C2")]
-    wanted = [*around("P1/1", "C1", "C2"), *around("P1/3", "C1", "C2")]
-    assert bodies(log.file(*rows)) == wanted
 
 
 def test_a_side_is_in_the_name_where_that_is_wanted(folder: pathlib.Path) -> None:
@@ -150,18 +104,12 @@ def test_rework_is_left_out_and_what_is_unknown_is_not(folder: pathlib.Path) -> 
     assert "has other events" in str(fault.value)
 
 
-def test_the_end_of_a_tape_empties_its_reel(folder: pathlib.Path) -> None:
+def test_a_splice_sensor_says_no_next_reel(folder: pathlib.Path) -> None:
     log, slot = Log(folder), {"Machine": "M1", "Slot": "1"}
-    made = log.says("OUT", Slot="1", Reel="K-1", Next="K-2")
-    assert bodies(made) == [
-        ("MaterialsUnloaded", slot),
-        ("CountsTaken", {"Counts": [{"Reel": "K-1", "Quantity": 0}]}),
-        ("MaterialsLoaded", {**slot, "Reel": "K-2"}),
-    ]
-    assert len(log.says("OUT", Slot="1", Reel="K-1")) == 2
-    assert bodies(log.says("SPLICE", Slot="1", Reel="K-2")) == [
-        ("MaterialsSpliced", {**slot, "Reel": "K-2"})
-    ]
+    (unload, _) = bodies(log.says("OUT", Slot="1", Reel="K-1"))
+    assert unload == ("MaterialsUnloaded", slot)
+    (splice,) = bodies(log.says("SPLICE", Slot="1", Reel="K-2"))
+    assert splice == ("MaterialsSpliced", {**slot, "Reel": "K-2"})
 
 
 # --- Days, compared with what was placed
@@ -240,25 +188,30 @@ def sheet(product: str, *slots: str, number: str = "1") -> bytes:
 ALL = [(slot, name) for slot, (_, names) in SHEET.items() for name in names]
 
 
-def test_a_day_of_two_lanes_is_traced(
+def test_a_day_of_two_lanes_and_a_panel_is_traced(
     program: pathlib.Path, folder: pathlib.Path, seed: int
 ) -> None:
-    """Pieces of two boards in any order, from one bank of feeders."""
+    """Boards on one lane, panels with a bad mark on the other, and their pieces in any order from
+    one bank of feeders.
+    """
     day = Day(Log(folder, around=True), seed)
     day.set_up(sheet("PR"))
     day.load()
     for number in range(8):
-        boards = {f"B{number}a": list(ALL), f"B{number}b": list(ALL)}
-        for board in boards:
-            day.said += day.log.says("START", Panel=board)
-        while any(boards.values()):
-            board = day.chance.choice([it for it, left in boards.items() if left])
-            slot, name = boards[board].pop(0)
-            row = day.place(board, slot, name, Panel=board)
+        bad = day.chance.choice("234")
+        units = {("B", ""): list(ALL), **{("P", it): list(ALL) for it in "1234" if it != bad}}
+        for panel in "BP":
+            day.said += day.log.says("START", Panel=f"{panel}{number}")
+        day.said += day.log.says("BAD", Panel=f"P{number}", Unit=bad)
+        while left := [it for it, pieces in units.items() if pieces]:
+            panel, unit = day.chance.choice(left)
+            board = f"{panel}{number}/{unit}".rstrip("/")
+            slot, name = units[panel, unit].pop(0)
+            row = day.place(board, slot, name, Panel=f"{panel}{number}", Unit=unit)
             day.said += day.log.line(row)
-        for board in boards:
-            day.said += day.log.says("END", Panel=board)
-    assert len(day.pieces) == 16
+        for panel in "BP":
+            day.said += day.log.says("END", Panel=f"{panel}{number}")
+    assert len(day.pieces) == 8 * 4
     day.is_traced(program, folder)
 
 
