@@ -36,9 +36,9 @@ def shown(name: str) -> str:
 
 
 def name_of(record: Any) -> str:
-    """By what a record that is passed over is counted."""
+    """By what a record that is passed over is counted; empty where it has no MessageName."""
     name = record.get("MessageName") if isinstance(record, dict) else None
-    return shown(name) if isinstance(name, str) else "a record without MessageName"
+    return shown(name) if isinstance(name, str) else ""
 
 
 class Bridge:
@@ -72,7 +72,7 @@ class Bridge:
             self.counts["dead"] += 1
             return Came([f"dead {name}"], [])
         if not made:
-            name = name_of(record.value)
+            name = name_of(record.value) or "a record without MessageName"
             has_place = name in self.passed or len(self.passed) < MOST_NAMES
             self.passed[name if has_place else "others"] += 1
             return Came([f"passed {name}"], [])

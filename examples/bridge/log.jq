@@ -36,6 +36,7 @@ def event: if .Event == "PLACE" then [.] | if around then whole("") else placed(
   elif .Event == "SPLICE" then said("MaterialsSpliced"; ""; slot + {Reel: need("Reel")})
   elif .Event == "UNLOAD" then said("MaterialsUnloaded"; ""; slot)
   elif .Event == "OUT" then tape_ended
+  elif .Event == "REJECT" then said("MaterialsScrapped"; ""; slot + {Quantity: 1})
   elif .Event == "START" or .Event == "END" or .Event == "BAD" or .Event == "REWORK" then empty
   else error("Event \(.Event) is none of this filter") end;
 
