@@ -11,8 +11,12 @@ from typing import Any, NamedTuple
 
 from tracedesk import forms, tables, words
 
-PART = ("part number", "part", "material", "material number", "teilenummer", "materialnummer")
-# Of each kind its members: the columns that are known as it, and whether it has to be there.
+PART = (
+    *("part number", "part", "material", "material number"),
+    *("teilenummer", "materialnummer", "artikel", "bauteil"),
+)
+# Of each kind its members: the columns that are known as it, and whether it has to be there. A
+# column is one member: a batch is the reel, unless there is a reel; then it is the lot.
 COLUMNS: dict[str, dict[str, tuple[tuple[str, ...], bool]]] = {
     "parts": {"PartNumber": (PART, True)},
     "alternates": {
@@ -20,11 +24,22 @@ COLUMNS: dict[str, dict[str, tuple[tuple[str, ...], bool]]] = {
         "Alternate": (("substitute", "alternate part", "alternative", "ersatz"), True),
     },
     "reels": {
-        "Reel": (("reel id", "batch", "charge", "rolle", "rollennummer"), True),
+        "Reel": (("reel id", "rolle", "rollennummer", "batch", "charge"), True),
         "PartNumber": (PART, True),
-        "Lot": (("lot number", "lot code", "vendor batch", "lieferantencharge", "los"), True),
+        "Lot": (
+            (
+                "lot number",
+                "lot code",
+                "vendor batch",
+                "lieferantencharge",
+                "los",
+                "batch",
+                "charge",
+            ),
+            True,
+        ),
         "Level": (("msl", "moisture level"), True),
-        "Quantity": (("qty", "menge", "stock", "bestand"), True),
+        "Quantity": (("qty", "menge", "stock", "bestand", "anzahl"), True),
         "LabelMinutes": (("label minutes",), False),
         "DateCode": (("date code", "d/c"), False),
         "Supplier": (("vendor", "lieferant"), False),
@@ -34,7 +49,7 @@ COLUMNS: dict[str, dict[str, tuple[tuple[str, ...], bool]]] = {
     "placements": {
         "Designator": (("designators", "ref", "refdes", "ref des", "reference"), True),
         "PartNumber": ((*PART, "comp", "component"), True),
-        "Slot": (("feeder", "feeder slot", "track"), True),
+        "Slot": (("feeder", "feeder slot", "track", "spur"), True),
         "Product": (("program", "job"), False),
         "Machine": (("module",), False),
     },
@@ -103,7 +118,8 @@ def names_of(kind: str, heading: Sequence[str], mapping: Mapping[str, str]) -> N
     said = f"the heading has {', '.join(heading)}"
     if unknown := sorted(set(mapping) - set(known)):
         raise BadTable(f"{unknown[0]} is no member of {kind}: these are {', '.join(known)}")
-    usual = {re.sub(r"[ _.-]", "", it.lower()): it for it in heading}
+    left = (it for it in heading if it not in mapping.values())
+    usual = {re.sub(r"[ _.-]", "", it.lower()): it for it in left}
     for member, (others, is_wanted) in known.items():
         column = mapping.get(member, "")
         if re.fullmatch('".*"', column):
@@ -112,7 +128,7 @@ def names_of(kind: str, heading: Sequence[str], mapping: Mapping[str, str]) -> N
             raise BadTable(f"{member} = {column}: {said}")
         else:
             tried = (re.sub(r"[ _.-]", "", it) for it in (member.lower(), *others))
-            column = column or next((usual[it] for it in tried if it in usual), "")
+            column = column or next((usual.pop(it) for it in tried if it in usual), "")
             if column:
                 found.columns[member] = column
             elif is_wanted:

@@ -78,7 +78,7 @@ FILES: list[tuple[str, str, bytes, dict[str, str], list[Any]]] = [
     (
         "a goods receipt",
         "reels",
-        b"Reel ID;Part;Lot;Qty\n4711-1;CAP-100N;L-77;4.000,00\n4711-2;RES 10K;L-78;150,0\n",
+        b"Charge;Material;Rolle;Menge\nL-77;CAP-100N;4711-1;4.000,00\nL-78;RES 10K;4711-2;150,0\n",
         {"Level": '"3"'},
         [REELS[0], {**REELS[1], "Level": "3"}],
     ),
