@@ -3,12 +3,12 @@ work; over HTTP, or called.
 """
 from __future__ import annotations
 
-import http.server
 import json
-import threading
 import time
 import urllib.parse
 from typing import Any, Dict, List, Optional, Tuple
+
+import at_port
 
 STATUS = {"Accepted": 200, "Refused": 409, "Faulty": 422, "Unavailable": 503}
 SLOTS = "slot,position,reel,part,lot,remaining,minutes_left"
@@ -134,18 +134,12 @@ class Model:
         return 404, b'{"Answer":"NotFound","Kind":"Reel"}'
 
 
-class Answering(http.server.BaseHTTPRequestHandler):
-    protocol_version = "HTTP/1.1"
-
-    def log_message(self, *_: object) -> None:
-        """Nothing is told."""
-
+class Answering(at_port.Answering):
     def do_GET(self) -> None:
         self.reply(*self.model().get(self.path))
 
     def do_POST(self) -> None:
-        text = self.rfile.read(int(self.headers["Content-Length"]))
-        self.reply(*self.model().say(text))
+        self.reply(*self.model().say(self.body()))
 
     def model(self) -> Model:
         """The model, once it isn't silent."""
@@ -154,31 +148,14 @@ class Answering(http.server.BaseHTTPRequestHandler):
             time.sleep(0.02)
         return model
 
-    def reply(self, status: int, body: bytes) -> None:
-        self.send_response(status)
-        self.send_header("Content-Length", str(len(body)))
-        self.end_headers()
-        self.wfile.write(body)
 
-
-class Server(http.server.ThreadingHTTPServer):
-    """A model over HTTP, at a port of its own."""
-
-    daemon_threads = True
+class Server(at_port.Server):
+    """A model over HTTP."""
 
     def __init__(self, model: Model) -> None:
-        super().__init__(("127.0.0.1", 0), Answering)
         self.model = model
-        threading.Thread(target=self.serve_forever, args=(0.02,), daemon=True).start()
-
-    @property
-    def url(self) -> str:
-        return f"http://127.0.0.1:{self.server_address[1]}"
-
-    def handle_error(self, *_: object) -> None:
-        """A sender that was killed is no news here."""
+        super().__init__(Answering)
 
     def end(self) -> None:
         self.model.is_silent = False
-        self.shutdown()
-        self.server_close()
+        super().end()

@@ -5,6 +5,7 @@ import json
 import pathlib
 from typing import Any, Dict, Optional
 
+import at_port
 from desk_model import Server
 
 from tracedesk import answers, asking, desk, disk, interlock, scans, spool
@@ -32,13 +33,8 @@ class Line:
 
     def message(self, word: str, uid: Optional[str] = None, **body: Any) -> Dict[str, Any]:
         self.count += 1
-        return {
-            "MessageName": f"TraceDesk.{word}",
-            "UniqueID": uid or f"u{self.count}",
-            "Source": "M1",
-            "TimeStamp": f"2026-03-02T{6 + self.count // 60:02}:{self.count % 60:02}:00Z",
-            "MessageBody": {"Machine": "M1", **body},
-        }
+        at = f"2026-03-02T{6 + self.count // 60:02}:{self.count % 60:02}:00Z"
+        return at_port.told(word, uid or f"u{self.count}", "M1", at, Machine="M1", **body)
 
     def say(self, word: str, uid: Optional[str] = None, **body: Any) -> str:
         """The machine's sender says something; the state after it."""

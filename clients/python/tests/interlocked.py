@@ -39,14 +39,14 @@ import tempfile
 import time
 from typing import Any, Callable, Dict, Iterator, List, Optional, Tuple, TypeVar
 
+import at_port
+from at_port import PATIENCE, SENDER
 from desk_model import Model, Server
 from tracedesk_dev import processes
 
-SENDER = pathlib.Path(__file__).resolve().parents[1] / "tracedesk-send"
 YOUNG = 0.5  # seconds that a call permits for
 TROUBLES = ("a kill", "a suspend", "a frozen desk", "a full disk")
 TROUBLED, LASTS = 0.4, 1.5  # share of refusals amid one, and its seconds
-PATIENCE = 600  # seconds for what must come: a machine may be busy
 Found = TypeVar("Found")
 
 
@@ -94,13 +94,8 @@ class Plant:
 
     def message(self, word: str, **body: Any) -> Dict[str, Any]:
         self.number += 1
-        return {
-            "MessageName": f"TraceDesk.{word}",
-            "UniqueID": f"u{self.number}",
-            "Source": "M1",
-            "TimeStamp": time.strftime("%Y-%m-%dT%H:%M:%SZ", time.gmtime()),
-            "MessageBody": {"Machine": "M1", **body},
-        }
+        at = time.strftime("%Y-%m-%dT%H:%M:%SZ", time.gmtime())
+        return at_port.told(word, f"u{self.number}", "M1", at, Machine="M1", **body)
 
     def say(self, *messages: Dict[str, Any]) -> str:
         """The machine writes messages; the UniqueID of the last one."""
@@ -110,11 +105,11 @@ class Plant:
 
     def tablet(self, word: str, **body: Any) -> str:
         """A tablet says something to the desk, and the proxy writes it into its list."""
-        told = self.message(word, **body)
-        status, _ = self.model.say(json.dumps(told).encode())
+        its = self.message(word, **body)
+        status, _ = self.model.say(json.dumps(its).encode())
         with open(self.scans / "2026-03-02.jsonl", "a") as file:
-            print(json.dumps({"Status": str(status), "Message": json.dumps(told)}), file=file)
-        return str(told["UniqueID"])
+            print(json.dumps({"Status": str(status), "Message": json.dumps(its)}), file=file)
+        return str(its["UniqueID"])
 
     def begin_board(self) -> None:
         """The machine completes its board, and starts the next one."""

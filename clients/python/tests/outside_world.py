@@ -19,6 +19,7 @@ import time
 import types
 from typing import Any, Callable, ClassVar, Iterable, Optional
 
+import at_port
 from outside_desk import DeskModel, Wrong
 from tracedesk import forms, send, spool, words
 
@@ -55,13 +56,7 @@ class Killed(BaseException):
 def line(source: str, number: int, kind: str = "good") -> bytes:
     """A message of a source, whose UniqueID names what becomes of it."""
     uid, word = f"{source}-{number}-{kind}", "PartsDefined" if kind == "mistyped" else "PartDefined"
-    told = {
-        "MessageName": f"TraceDesk.{word}",
-        "UniqueID": uid,
-        "Source": source,
-        "TimeStamp": "2026-03-02T06:00:00Z",
-        "MessageBody": {"PartNumber": uid},
-    }
+    told = at_port.told(word, uid, source, PartNumber=uid)
     if kind == "other":
         told["MessageName"] = "CFX.Heartbeat"
     text = json.dumps(told).encode()

@@ -8,22 +8,17 @@ from __future__ import annotations
 import base64
 import contextlib
 import http.client
-import http.server
-import json
 import pathlib
 import socket
 import ssl
 import subprocess
 import sys
-import threading
 import time
-from typing import Any, Callable, Iterable, Iterator, NamedTuple, Optional
+from typing import Any, Callable, Iterable, Iterator, NamedTuple
 
-from tracedesk_dev import ROOT
+import at_port
+from at_port import PATIENCE, SENDER
 from tracedesk_dev.ports import free_port
-
-PATIENCE = 600  # seconds for what must come: a machine may be busy
-SENDER = ROOT / "clients/python/tracedesk-send"
 
 
 def serving(
@@ -64,15 +59,7 @@ def served(program: pathlib.Path, folder: pathlib.Path) -> Iterator[int]:
 
 
 def message(word: str, number: int, **body: Any) -> bytes:
-    return json.dumps(
-        {
-            "MessageName": f"TraceDesk.{word}",
-            "UniqueID": f"m-{number}",
-            "Source": "S",
-            "TimeStamp": "2026-03-02T06:00:00Z",
-            "MessageBody": body,
-        }
-    ).encode()
+    return at_port.text(word, f"m-{number}", **body)
 
 
 def parts(folder: pathlib.Path, count: int) -> bytes:
@@ -114,34 +101,24 @@ def expect(got: Sent, status: int, answers: int, said: str = "") -> None:
     assert said in got.said
 
 
-class Proxy(http.server.ThreadingHTTPServer):
+class Proxy(at_port.Server):
     """Stands in front of a desk: its first requests meet the steps of a script, and what comes then
     is passed on.
     """
 
-    daemon_threads = True
-
     def __init__(self, desk: int, script: Iterable[Step] = (), log_in: bytes = b"") -> None:
-        super().__init__(("127.0.0.1", 0), Request)
         self.desk, self.script, self.log_in = desk, list(script), log_in
         self.came: list[float] = []  # when each request came
-        threading.Thread(target=self.serve_forever, daemon=True).start()
+        super().__init__(Request)
 
-    def url(self, scheme: str = "http", host: str = "127.0.0.1") -> str:
-        return f"{scheme}://{host}:{self.server_address[1]}"
-
-    def handle_error(self, request: Any, client_address: Any) -> None:
-        """A connection that broke is no news here."""
+    def https(self, host: str = "127.0.0.1") -> str:
+        return f"https://{host}:{self.server_address[1]}"
 
 
-class Request(http.server.BaseHTTPRequestHandler):
+class Request(at_port.Answering):
     """A message that came to the proxy."""
 
-    protocol_version = "HTTP/1.1"
     server: Proxy
-
-    def log_message(self, *_words: Any) -> None:
-        """Nothing is told."""
 
     def do_POST(self) -> None:
         self.server.came.append(time.monotonic())
@@ -157,9 +134,6 @@ class Request(http.server.BaseHTTPRequestHandler):
         log_in = base64.b64encode(self.server.log_in).decode()
         return bool(self.headers["Authorization"] == f"Basic {log_in}")
 
-    def body(self) -> bytes:
-        return self.rfile.read(int(self.headers["Content-Length"]))
-
     def asked_of_desk(self) -> tuple[int, bytes]:
         desk = http.client.HTTPConnection("127.0.0.1", self.server.desk, timeout=PATIENCE)
         desk.request("POST", self.path, self.body(), {"Connection": "close"})
@@ -168,33 +142,19 @@ class Request(http.server.BaseHTTPRequestHandler):
         desk.close()
         return told
 
-    def answer(
-        self,
-        status: int,
-        body: bytes,
-        headers: Iterable[tuple[str, Any]] = (),
-        length: Optional[int] = None,
-    ) -> None:
-        self.send_response(status)
-        for name, value in (("Content-Length", length or len(body)), *headers):
-            self.send_header(name, str(value))
-        self.end_headers()
-        self.wfile.write(body)
-
 
 Step = Callable[[Request], None]
 
 
 def passed_on(request: Request) -> None:
-    request.answer(*request.asked_of_desk())
+    request.reply(*request.asked_of_desk())
 
 
 def says(status: int, body: bytes = b"<html>nginx</html>", **headers: object) -> Step:
     def step(request: Request) -> None:
         request.body()
-        request.answer(
-            status, body, [(name.replace("_", "-"), value) for name, value in headers.items()]
-        )
+        its = {name.replace("_", "-"): value for name, value in headers.items()}
+        request.reply(status, body, its)
 
     return step
 
@@ -211,11 +171,11 @@ def loses_the_answer(request: Request) -> None:
 
 def cuts_the_answer(request: Request) -> None:
     status, body = request.asked_of_desk()
-    request.answer(status, body[:-9], length=len(body))
+    request.reply(status, body[:-9], {"Content-Length": len(body)})
     request.close_connection = True
 
 
 def turns_away(request: Request) -> None:
     """Says 413 with the message unread, and closes: the client may still be sending."""
-    request.answer(413, b"<html>too large</html>", [("Connection", "close")])
+    request.reply(413, b"<html>too large</html>", {"Connection": "close"})
     request.close_connection = True

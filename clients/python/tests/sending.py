@@ -1,93 +1,56 @@
 """tracedesk-send with a spool, before something that answers as a desk does."""
 from __future__ import annotations
 
-import http.server
 import json
 import pathlib
 import subprocess
 import sys
-import threading
 import time
 from typing import Any, Callable, Dict, Tuple
 
+import at_port
+from at_port import PATIENCE, SENDER
+
 Said = Tuple[int, Dict[str, str], Dict[str, Any]]  # a status, headers and an answer
-PATIENCE = 600  # seconds for what must come: a machine may be busy
-SENDER = pathlib.Path(__file__).resolve().parents[1] / "tracedesk-send"
 
 
 def line(uid: str, word: str = "PartDefined") -> bytes:
-    return json.dumps(
-        {
-            "MessageName": f"TraceDesk.{word}",
-            "UniqueID": uid,
-            "Source": "S",
-            "TimeStamp": "2026-03-02T06:00:00Z",
-            "MessageBody": {"PartNumber": uid},
-        }
-    ).encode()
+    return at_port.text(word, uid, PartNumber=uid)
 
 
-class Answering(http.server.BaseHTTPRequestHandler):
+class Answering(at_port.Answering):
     """Says what its script says next; then Accepted, of `bad` Refused, and of a word that is none
     Ignored.
     """
 
-    protocol_version = "HTTP/1.1"
     server: Server
 
-    def log_message(self, *_: Any) -> None:
-        """Nothing is told."""
-
     def do_POST(self) -> None:
-        told = json.loads(self.rfile.read(int(self.headers["Content-Length"])))
-        self.server.came.append((time.monotonic(), told["UniqueID"]))
+        told = json.loads(self.body())
+        name, uid = told["MessageName"], told["UniqueID"]
+        self.server.came.append((time.monotonic(), uid))
         self.server.said.append(told)
+        said: Said = 200, {}, {"Answer": "Accepted", "Number": 1, "UniqueID": uid}
         if self.server.script:
-            status, headers, answer = self.server.script.pop(0)
-        elif told["MessageName"] == "TraceDesk.PartsDefined":
-            status, headers, answer = (
-                202,
-                {},
-                {"Answer": "Ignored", "MessageName": told["MessageName"]},
-            )
-        elif told["UniqueID"].startswith("bad"):
-            status, headers, answer = (
-                409,
-                {},
-                {
-                    "Answer": "Refused",
-                    "At": "P",
-                    "Refusal": "PartExists",
-                    "UniqueID": told["UniqueID"],
-                },
-            )
-        else:
-            status, headers, answer = (
-                200,
-                {},
-                {"Answer": "Accepted", "Number": 1, "UniqueID": told["UniqueID"]},
-            )
-        body = json.dumps(answer, separators=(",", ":")).encode()
-        self.send_response(status)
-        for name, value in {"Content-Length": str(len(body)), **headers}.items():
-            self.send_header(name, value)
-        self.end_headers()
-        self.wfile.write(body)
+            said = self.server.script.pop(0)
+        elif name == "TraceDesk.PartsDefined":
+            said = 202, {}, {"Answer": "Ignored", "MessageName": name}
+        elif uid.startswith("bad"):
+            answer = {"Answer": "Refused", "At": "P", "Refusal": "PartExists", "UniqueID": uid}
+            said = 409, {}, answer
+        self.reply(said[0], json.dumps(said[2], separators=(",", ":")).encode(), said[1])
 
 
-class Server(http.server.ThreadingHTTPServer):
+class Server(at_port.Server):
     """What came, and when; and what it says next: a status, headers and an answer."""
 
-    def __init__(self, *given: Any) -> None:
-        super().__init__(*given)
+    def __init__(self, answering: type[Answering]) -> None:
         self.came: list[tuple[float, str]] = []
         self.said: list[dict[str, Any]] = []
         self.script: list[Said] = []
         self.slots = ""  # the report of the reels, for who asks
         self.put: dict[str, bytes] = {}  # files that came, by their paths
-
-    def handle_error(self, *_: Any) -> None:
-        """A sender that was killed is no news here."""
+        super().__init__(answering)
 
 
 class Lab:
@@ -98,24 +61,12 @@ class Lab:
     def __init__(self, room: pathlib.Path) -> None:
         self.room, self.spool, self.out = room, room / "spool", room / "out"
         self.out.mkdir()
-        self.server = Server(("127.0.0.1", 0), self.answering)
-        self.url = f"http://127.0.0.1:{self.server.server_address[1]}"
-        threading.Thread(target=self.server.serve_forever, daemon=True).start()
-
-    def end(self) -> None:
-        self.server.shutdown()
-        self.server.server_close()
+        self.server = Server(self.answering)
+        self.url, self.end = self.server.url, self.server.end
 
     def words(self, *more: Any) -> list[str]:
-        return [
-            sys.executable,
-            str(SENDER),
-            "--url",
-            self.url,
-            "--spool",
-            str(self.spool),
-            *map(str, more),
-        ]
+        head = [sys.executable, str(SENDER), "--url", self.url, "--spool", str(self.spool)]
+        return [*head, *map(str, more)]
 
     def send(self, *more: Any, given: bytes = b"") -> "subprocess.CompletedProcess[bytes]":
         return subprocess.run(self.words(*more), input=given, capture_output=True, timeout=PATIENCE)
@@ -133,14 +84,5 @@ class Lab:
             time.sleep(0.05)
 
     def two_files(self, *words: Any) -> "subprocess.CompletedProcess[bytes]":
-        return subprocess.run(
-            [
-                sys.executable,
-                str(SENDER),
-                "--url",
-                self.url,
-                *map(str, words),
-            ],
-            capture_output=True,
-            timeout=PATIENCE,
-        )
+        head = [sys.executable, str(SENDER), "--url", self.url]
+        return subprocess.run([*head, *map(str, words)], capture_output=True, timeout=PATIENCE)

@@ -1,9 +1,8 @@
 """Answers as data, what statuses ask, and reports as rows."""
-import http.server
 import json
-import threading
-from typing import Any, Iterator
+from typing import Iterator
 
+import at_port
 import pytest
 from tracedesk import answers, desk, words
 from tracedesk.answers import Accepted, Faulty, Ignored, Meaning, NotFound, Refused, Unavailable
@@ -183,31 +182,19 @@ REPORTS = {
 }
 
 
-class Answering(http.server.BaseHTTPRequestHandler):
-    protocol_version = "HTTP/1.1"
-
-    def log_message(self, *_: Any) -> None:
-        """Nothing is told."""
-
+class Answering(at_port.Answering):
     def do_GET(self) -> None:
-        text = REPORTS[self.path]
-        body = (
-            json.dumps({"Answer": "NotFound", "Kind": "Lot"}) if text is None else text
-        ).encode()
-        self.send_response(404 if text is None else 200)
-        self.send_header("Content-Length", str(len(body)))
-        self.end_headers()
-        self.wfile.write(body)
+        none = json.dumps({"Answer": "NotFound", "Kind": "Lot"})
+        its = REPORTS[self.path]
+        self.reply(404 if its is None else 200, (none if its is None else its).encode())
 
 
 @pytest.fixture
 def url() -> Iterator[str]:
     """Where something answers as a desk's reports do."""
-    server = http.server.ThreadingHTTPServer(("127.0.0.1", 0), Answering)
-    threading.Thread(target=server.serve_forever, daemon=True).start()
-    yield f"http://127.0.0.1:{server.server_address[1]}"
-    server.shutdown()
-    server.server_close()
+    server = at_port.Server(Answering)
+    yield server.url
+    server.end()
 
 
 def test_the_six(url: str) -> None:

@@ -11,6 +11,7 @@ from typing import Iterator
 
 import interlocked
 import pytest
+from at_port import PATIENCE
 from tracedesk.command import LONGEST_CALL
 
 BY_SIGTERM = (-signal.SIGTERM, 128 + signal.SIGTERM)  # a main thread that hangs ends by the latter
@@ -68,7 +69,7 @@ def test_a_signal_ends_a_sender_in_a_call_that_hangs(plant: interlocked.Plant) -
     plant.begin_board()
     plant.wait_for(called.exists)
     plant.sender.send_signal(signal.SIGTERM)
-    assert plant.sender.wait(interlocked.PATIENCE) in BY_SIGTERM
+    assert plant.sender.wait(PATIENCE) in BY_SIGTERM
     assert list(plant.calls())[-1][1:] == ("stop", "the sender was ended")
 
 
@@ -80,7 +81,7 @@ def test_a_signal_ends_a_sender_while_the_desk_hangs(plant: interlocked.Plant) -
     plant.say(plant.message("MaterialsScrapped", Slot="1", Quantity=1))
     time.sleep(1)
     plant.sender.send_signal(signal.SIGTERM)
-    assert plant.sender.wait(interlocked.PATIENCE) in BY_SIGTERM
+    assert plant.sender.wait(PATIENCE) in BY_SIGTERM
     assert list(plant.calls())[-1][1:] == ("stop", "the sender was ended")
 
 
@@ -107,7 +108,7 @@ def test_a_second_sender_of_a_machine_is_refused(plant: interlocked.Plant) -> No
     plant.wait_for(lambda: list(plant.calls()))
     words = [it if it != str(plant.room / "spool") else f"{it}2" for it in plant.words]
     words[words.index("--follow") + 1] = str(plant.room)
-    done = subprocess.run(words, capture_output=True, text=True, timeout=interlocked.PATIENCE)
+    done = subprocess.run(words, capture_output=True, text=True, timeout=PATIENCE)
     assert done.returncode == 2 and "another sender has its interlock" in done.stderr, done.stderr
 
 

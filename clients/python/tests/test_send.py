@@ -13,7 +13,8 @@ from typing import Any, Callable, Iterator
 from unittest import mock
 
 import pytest
-from sending import PATIENCE, SENDER, Lab, Said, line
+from at_port import PATIENCE, SENDER
+from sending import Lab, Said, line
 from tracedesk import desk, forms
 
 

@@ -11,7 +11,8 @@ from typing import Any
 
 import killed
 import pytest
-from proxy_lab import SENDER, answered, serving
+from at_port import SENDER
+from proxy_lab import answered, serving
 from station_site import Site
 from tracedesk_dev import shift
 from tracedesk_dev.ports import free_port

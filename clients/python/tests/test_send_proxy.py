@@ -10,9 +10,8 @@ from typing import Any
 
 import killed
 import pytest
+from at_port import PATIENCE, SENDER
 from proxy_lab import (
-    PATIENCE,
-    SENDER,
     Proxy,
     Step,
     closes,
@@ -53,7 +52,7 @@ def test_what_is_no_answer_is_tried_again(program: pathlib.Path, tmp_path: pathl
     clean = killed.fed(program, tmp_path / "clean", parts(tmp_path, 8))
     with served(program, tmp_path) as port:
         proxy = Proxy(port, script)
-        got = sent(tmp_path, proxy.url())
+        got = sent(tmp_path, proxy.url)
         proxy.shutdown()
     expect(got, 0, 8, f"{fails} times sent again")
     assert (tmp_path / "answers").read_bytes() == clean
@@ -77,7 +76,7 @@ ENDS: dict[str, Step] = {
 
 def expect_not_taken(proxy: Proxy, folder: pathlib.Path, answers: int, said: str) -> None:
     """Looks whether the sender gives a message up after one try, and says this."""
-    expect(sent(folder, proxy.url(), "--patience", "2"), 4, answers, said)
+    expect(sent(folder, proxy.url, "--patience", "2"), 4, answers, said)
     assert len(proxy.came) == 1 + answers
 
 
@@ -160,7 +159,7 @@ def test_a_message_of_the_archive_does_not_act_again(
     with served(program, tmp_path) as port:
         proxy = Proxy(port, [passed_on, loses_the_answer] + [says(503)] * 50)
         done = subprocess.run(
-            [*words, "--url", proxy.url(), "--patience", "6"],
+            [*words, "--url", proxy.url, "--patience", "6"],
             capture_output=True,
             text=True,
             timeout=PATIENCE,

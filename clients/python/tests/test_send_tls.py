@@ -10,7 +10,8 @@ import sys
 from typing import Any
 
 import pytest
-from proxy_lab import PATIENCE, Proxy, expect, parts, passed_on, says, sent, served
+from at_port import PATIENCE
+from proxy_lab import Proxy, expect, parts, passed_on, says, sent, served
 from station_site import certificate
 from tracedesk_dev import ROOT
 
@@ -28,14 +29,14 @@ def test_tls_is_spoken(program: pathlib.Path, tmp_path: pathlib.Path) -> None:
     with served(program, tmp_path) as port:
         proxy = Proxy(port, [passed_on] * 3 + [says(401)], log_in=b"m1:secret: 1")
         proxy.socket = context.wrap_socket(proxy.socket, server_side=True)
-        url, ca = proxy.url("https", "localhost"), ["--ca", tmp_path / "server.crt"]
+        url, ca = proxy.https("localhost"), ["--ca", tmp_path / "server.crt"]
         m1 = ["--user", "m1", "--password-file", tmp_path / "password"]
         m2 = ["--cert", tmp_path / "m2.crt", "--key", tmp_path / "m2.key"]
         by_environment = [*ca, "--user", "m1"]
         right, wrong = ({"TRACEDESK_PASSWORD": it} for it in ("secret: 1", "other"))
         expect(sent(tmp_path, url, *ca), 4, 0, "log-in")
         expect(sent(tmp_path, url, *m1), 4, 0, "certificate")
-        expect(sent(tmp_path, proxy.url("https"), *ca, *m1), 4, 0, "certificate")
+        expect(sent(tmp_path, proxy.https(), *ca, *m1), 4, 0, "certificate")
         expect(sent(tmp_path, url, *by_environment, env=wrong), 4, 0, "log-in")
         expect(sent(tmp_path, url, *ca, *m1), 4, 1, "log-in")
         expect(sent(tmp_path, url, *by_environment, env=right), 0, 4)

@@ -20,6 +20,7 @@ import pytest
 
 ROOT = pathlib.Path(__file__).resolve().parents[3]
 sys.path[:0] = [str(ROOT / "station/tests"), str(ROOT / "ops")]
+import at_port  # noqa: E402
 from station_site import Site  # noqa: E402
 from tracedesk_dev import program as programs  # noqa: E402
 from tracedesk_ops import inboxes  # noqa: E402
@@ -142,8 +143,7 @@ def test_what_another_site_has_a_browser_send_is_refused(
 
 def message(word: str, uid: str, **body: Any) -> str:
     at = time.strftime("%Y-%m-%dT%H:%M:%SZ", time.gmtime())
-    told = {"MessageName": f"TraceDesk.{word}", "UniqueID": uid, "Source": "tablet"}
-    return json.dumps({**told, "TimeStamp": at, "MessageBody": {"Machine": "M1", **body}})
+    return json.dumps(at_port.told(word, uid, "tablet", at, Machine="M1", **body))
 
 
 def scans(site: Any) -> List[Tuple[str, str, str]]:

@@ -7,6 +7,7 @@ import subprocess
 import tempfile
 from typing import Any, Iterator, Optional
 
+import at_port
 import pytest
 import sending
 import test_spool
@@ -15,16 +16,7 @@ from tracedesk import answers, desk, disk, interlock, spool, untraced
 
 
 def work(uid: str, word: str = "WorkStarted", **body: Any) -> bytes:
-    told = {"Machine": "M1", "Board": "B1", **body}
-    return json.dumps(
-        {
-            "MessageName": f"TraceDesk.{word}",
-            "UniqueID": uid,
-            "Source": "M1",
-            "TimeStamp": "2026-03-02T06:00:00Z",
-            "MessageBody": told,
-        }
-    ).encode()
+    return at_port.text(word, uid, "M1", **{"Machine": "M1", "Board": "B1", **body})
 
 
 SLOTS = "slot,position,reel,part,lot,remaining,minutes_left\n1,1,NEW,P,L-2,500,unlimited\n"
@@ -37,14 +29,8 @@ class Answering(sending.Answering):
         self.reply(200, self.server.slots.encode())
 
     def do_PUT(self) -> None:
-        self.server.put[self.path] = self.rfile.read(int(self.headers["Content-Length"]))
+        self.server.put[self.path] = self.body()
         self.reply(201, b"")
-
-    def reply(self, status: int, body: bytes) -> None:
-        self.send_response(status)
-        self.send_header("Content-Length", str(len(body)))
-        self.end_headers()
-        self.wfile.write(body)
 
 
 class UntracedLab(sending.Lab):

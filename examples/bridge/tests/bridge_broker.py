@@ -52,20 +52,10 @@ class Broker:
             f" {at}/broker.crt\nssl_options.certfile = {at}/broker.crt\nssl_options.keyfile ="
             f" {at}/broker.key\n"
         )
-        self.words: list[Any] = [
-            "--broker",
-            f"amqps://localhost:{self.safe}",
-            "--ca",
-            at / "broker.crt",
-            "--user",
-            "guest",
-            "--password-file",
-            at / "password",
-            "--queue",
-            f"/amq/queue/{QUEUE}",
-            "--window",
-            "20",
-        ]
+        self.words: list[Any] = ["--broker", f"amqps://localhost:{self.safe}"]
+        self.words += ["--ca", at / "broker.crt", "--user", "guest"]
+        self.words += ["--password-file", at / "password"]
+        self.words += ["--queue", f"/amq/queue/{QUEUE}", "--window", "20"]
         own = {
             "NODENAME": f"bridge{self.port}@localhost",
             "DIST_PORT": str(dist),

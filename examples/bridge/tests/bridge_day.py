@@ -25,13 +25,12 @@ import time
 from typing import Any
 
 import killed
+from at_port import SENDER
 from bridge_lab import MACHINE, Room, elements_of, line_of, ours, said
 from filters import Filter
 from fronts import json_records
-from tracedesk_dev import ROOT
+from proxy_lab import serving
 from tracedesk_dev.ports import free_port
-
-SENDER = ROOT / "clients/python/tracedesk-send"
 
 
 class DayOf:
@@ -207,28 +206,10 @@ class Run(killed.Run):
         ).splitlines()
 
     def words(self) -> dict[str, list[Any]]:
+        sender = [sys.executable, SENDER, "--url", f"http://127.0.0.1:{self.port}"]
         return {
-            "desk": [
-                self.program,
-                "serve",
-                "--db",
-                self.at / "desk",
-                "--port",
-                str(self.port),
-                "--connections",
-                "1000000",
-            ],
-            "sender": [
-                sys.executable,
-                SENDER,
-                "--url",
-                f"http://127.0.0.1:{self.port}",
-                "--spool",
-                self.spool,
-                "--rate",
-                "0",
-                "--stay",
-            ],
+            "desk": serving(self.program, self.at, self.port, 1_000_000),
+            "sender": [*sender, "--spool", self.spool, "--rate", "0", "--stay"],
             "bridge": self.room.command(*self.source()),
         }
 

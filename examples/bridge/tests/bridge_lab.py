@@ -11,12 +11,13 @@ import sys
 import time
 from typing import Any, Iterable, Optional
 
+import at_port
+from at_port import PATIENCE
 from tracedesk_dev import ROOT
 
 BRIDGE = ROOT / "examples/bridge/tracedesk-bridge"
 EXAMPLE = ROOT / "examples/bridge/cfx.jq"
 MACHINE = "Vendor1.Model1.Machine34"
-PATIENCE = 600  # seconds for what must come: a machine may be busy
 
 
 def line_of(message: Any) -> bytes:
@@ -43,15 +44,7 @@ def ours(
     word: str, uid: str, source: str = MACHINE, stamp: str = "2026-03-02T06:10:59Z", **body: Any
 ) -> bytes:
     """A message of the desk."""
-    return line_of(
-        {
-            "MessageName": f"TraceDesk.{word}",
-            "UniqueID": uid,
-            "Source": source,
-            "TimeStamp": stamp,
-            "MessageBody": body,
-        }
-    )
+    return line_of(at_port.told(word, uid, source, stamp, **body))
 
 
 def start(uid: str, **more: Any) -> bytes:

@@ -9,7 +9,7 @@ import time
 import uuid
 from typing import Any, Optional
 
-from bridge_lab import PATIENCE
+from at_port import PATIENCE
 from tracedesk_dev.ports import free_port
 
 

@@ -10,7 +10,8 @@ from typing import Any, Iterator
 
 import pytest
 from bridge_broker import Broker, RunByBroker, amqp, message
-from bridge_lab import PATIENCE, Room, start
+from at_port import PATIENCE
+from bridge_lab import Room, start
 from station_site import certificate
 
 pytestmark = [pytest.mark.whole, pytest.mark.needs("rabbitmq-server", "python:proton", "openssl")]

@@ -12,7 +12,8 @@ from typing import Any, Callable
 
 import fronts
 import pytest
-from bridge_lab import PATIENCE, Room, start
+from at_port import PATIENCE
+from bridge_lab import Room, start
 
 from tracedesk import tables
 

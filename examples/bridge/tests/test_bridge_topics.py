@@ -8,7 +8,8 @@ import subprocess
 import time
 
 import pytest
-from bridge_lab import PATIENCE, Room, line_of, said, start
+from at_port import PATIENCE
+from bridge_lab import Room, line_of, said, start
 from bridge_mosquitto import Mosquitto
 from station_site import certificate
 
