@@ -241,6 +241,11 @@ def test_a_dry_run_sends_nothing(erp: Erp) -> None:
     erp.send("reels", REELS_OF_SAP, "--dry-run").expect(0, "the desk isn't asked")
 
 
+def test_a_workbook_is_no_table(folder: pathlib.Path) -> None:
+    (folder / "reels.xlsx").write_bytes(b"PK\x03\x04\x14\x00")
+    call_tool("importing", "reels", folder / "reels.xlsx").expect(2, "save it as CSV")
+
+
 def test_a_bad_command_line_is_refused(folder: pathlib.Path) -> None:
     (folder / "table.csv").write_text("Part\nA\n")
     (folder / "map").write_text("Part\n")

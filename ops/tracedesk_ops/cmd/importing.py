@@ -48,6 +48,7 @@ from tracedesk_ops import desks, imports, plant
 
 DONE, WRONG, BAD, NO_ANSWER = 0, 1, 2, 3
 DECIMALS = {"comma": ",", "point": "."}
+WORKBOOKS = (b"PK\x03\x04", b"\xd0\xcf\x11\xe0")  # how .xlsx, .ods and .xls begin
 # Seconds for an answer, and for a desk that is asked before anything is sent.
 PATIENCE, QUICK = 60.0, 3.0
 
@@ -90,8 +91,10 @@ def made(asked: argparse.Namespace) -> tuple[list[imports.Made], list[imports.Wr
     except ValueError as fault:
         raise imports.BadTable(f"{asked.columns}: {fault}") from None
     try:
-        text = tables.decoded(asked.file.read_bytes())
-        return imports.messages_of(asked.kind, text, named, given)
+        data = asked.file.read_bytes()
+        if data.startswith(WORKBOOKS):
+            raise imports.BadTable("it is a workbook: save it as CSV")
+        return imports.messages_of(asked.kind, tables.decoded(data), named, given)
     except imports.BadTable as fault:
         raise imports.BadTable(f"{asked.file}: {fault}") from None
 
