@@ -1,5 +1,5 @@
 -- The question that the words ask, with the reels that a file lists.
-use Rattle.std.specs.Prelude.{◌≡◌, ◌<◌, ◌≤◌, ◌-◌, ◌==◌, ⊤, ℕ, List, [], ◌∷◌, ◌++◌, Option, Some, All, drop, if◌then◌else◌, length, take, codes, decimal}
+use Rattle.std.specs.Prelude.{◌≡◌, ◌<◌, ◌≤◌, ◌+◌, ◌-◌, ◌==◌, ⊤, ℕ, List, [], ◌∷◌, ◌++◌, Option, Some, All, drop, if◌then◌else◌, length, take, codes, decimal}
 use Rattle.std.specs.List.{slice_get, slice_split}
 use Rattle.desk_types.specs.declared.limits.TheConstants.{LONGEST_INPUT}
 use Rattle.desk_types.specs.Id.{IsId, Name, same}
@@ -36,10 +36,11 @@ abbrev pub HoldsList : Option (List ℕ) → List Name → Type 0
 HoldsList file names = (bytes : List ℕ) × IsRead file bytes × (length bytes ≤ LONGEST_INPUT)
     × IsListed bytes names
 
--- The line with this number, from 1, is no name.
+-- The first line that is no name has this number, from 1.
 abbrev pub IsBadLine : List ℕ → ℕ → Type 0
-IsBadLine bytes number = (line : List ℕ)
-    × (slice_get (lines_of bytes) (number - 1) ≡ Some line) × ¬ IsId line
+IsBadLine bytes number = (before : ℕ) × (number ≡ before + 1)
+    × All IsId (take before (lines_of bytes))
+    × (line : List ℕ) × (slice_get (lines_of bytes) before ≡ Some line) × ¬ IsId line
 
 -- ---- the question
 
@@ -59,13 +60,13 @@ IsQuestion file (Pieces whose) it =
 
 -- ---- its faults
 
--- The file can't be read, is too long, or has such a line. Or memory was refused.
+-- The file can't be read, is too long, or else has such a line. Or memory was refused.
 abbrev pub IsFaultOfList : Option (List ℕ) → Type 0 → ListFault → Type 0
 IsFaultOfList file MayFail Unread = MayFail
 IsFaultOfList file MayFail TooLong =
     (bytes : List ℕ) × IsRead file bytes × (LONGEST_INPUT < length bytes)
-IsFaultOfList file MayFail (BadLine number) =
-    (bytes : List ℕ) × IsRead file bytes × IsBadLine bytes number
+IsFaultOfList file MayFail (BadLine number) = (bytes : List ℕ) × IsRead file bytes
+    × (length bytes ≤ LONGEST_INPUT) × IsBadLine bytes number
 IsFaultOfList file MayFail NoMemory = ⊤
 
 -- The fault is that of the list that the words name, if they name one.

@@ -1,6 +1,6 @@
-use Rattle.desk_types.proofs.Common.{All, All-nil, List, None, Option, Some, [], ap, arith, get_or, inr, length, length-map, map, map-append, refl, rules, subst, sym, ℕ, ◌++◌, ◌+◌, ◌-◌, ◌<◌, ◌==◌, ◌∙◌, ◌∷◌, ◌≡◌}
+use Rattle.desk_types.proofs.Common.{All, All-nil, List, None, Option, Some, [], ap, arith, get_or, inr, length, length-map, map, map-append, refl, rules, subst, sym, take, ℕ, ◌++◌, ◌+◌, ◌<◌, ◌==◌, ◌∙◌, ◌∷◌, ◌≡◌}
 use Rattle.std.proofs.Common.{tests}
-use Rattle.std.proofs.lemmas.Iterator.Consumers.{YieldsList-end, YieldsList-turn}
+use Rattle.std.proofs.lemmas.Iterator.Consumers.{YieldsList-end, YieldsList-so_far, YieldsList-turn}
 use Rattle.std.proofs.lemmas.Iterator.Splits.{YieldsList-from_slice_split}
 use Rattle.std.proofs.lemmas.List.Elements.{All-push}
 use Rattle.std.proofs.lemmas.Option.{slice_get-get_or}
@@ -15,6 +15,10 @@ next-item : {S A B : Type 0} {steps : S → Option A → S → Type 0} {v : A �
     (xs : List A) (t : S) → Yields steps s xs t → (r : Option A) (u : S) (x : A) → r ≡ Some x → steps t r u
     → YieldsList steps v s all → (length xs < length all) × (v x ≡ get_or all (length xs) (v x))
 next-item xs t y r u x is step lines = YieldsList-turn lines xs t y r u x is step
+
+items-before : {S A B : Type 0} {steps : S → Option A → S → Type 0} {v : A → B} {s : S} {all : List B}
+    (xs : List A) (t : S) → Yields steps s xs t → YieldsList steps v s all → map v xs ≡ take (length xs) all
+items-before xs t y lines = YieldsList-so_far lines xs t y
 
 no-item : {S A B : Type 0} {steps : S → Option A → S → Type 0} {v : A → B} {s : S} {all : List B}
     (xs : List A) (t : S) → Yields steps s xs t → (r : Option A) (u : S) → r ≡ None → steps t r u
@@ -54,15 +58,32 @@ returns-in-None-read-clause-err c =
     (YieldsList-from_slice_split {s = c.into_iter-line-iterator.result} _ (λ b. b == 10) text
     (search rules) (search rules) (search rules)
     (λ x b q k. search (rules, tests))) in
+    let before = items-before c.loop-line.yielded _ c.loop-line.yielded_by
+    (YieldsList-from_slice_split {s = c.into_iter-line-iterator.result} _ (λ b. b == 10) text
+    (search rules) (search rules) (search rules)
+    (λ x b q k. search (rules, tests))) in
     let count : length c.loop-line.names.items ≡ i = ap length c.loop-line.invariant.lines
     ∙ length-map c.loop-line.yielded (λ line. line.now) in
     let n = c.len.result in
-    let index : n + 1 - 1 ≡ i = omega (arith, c.len.ensures, count) in
-    let here : slice_get lines (n + 1 - 1) ≡ Some line = ap (slice_get lines) index
+    let same : n ≡ i = omega (arith, c.len.ensures, count) in
+    let here : slice_get lines n ≡ Some line = ap (slice_get lines) same
     ∙ slice_get-get_or lines i line turn.0 ∙ (λ j. Some (sym turn.1 j)) in
-    let at : List ℕ → Option (List ℕ) = λ t. slice_get (slice_split (λ b. b == 10) t) (n + 1 - 1) in
-    let same-line = ap at (sym c.without_feed-text.ensures) in
-    inr (n + 1, refl, (line, same-line ∙ here, c.in-None-read.ensures))
+    let taken = c.loop-line.invariant.lines ∙ before ∙ ap (λ k. take k lines) (sym same) in
+    let known : All IsId (take n lines) = subst (All IsId) taken c.loop-line.invariant.all in
+    let split : List ℕ → List (List ℕ) = slice_split (λ b. b == 10) in
+    let unfed = sym c.without_feed-text.ensures in
+    inr (
+      n + 1,
+      refl,
+      (
+        n,
+        refl,
+        subst (λ t. All IsId (take n (split t))) c.without_feed-text.ensures known,
+        line,
+        ap (λ t. slice_get (split t) n) unfed ∙ here,
+        c.in-None-read.ensures,
+      ),
+    )
 
 pub returns-clause-ok : goal.returns-clause-ok
 returns-clause-ok c =
