@@ -99,6 +99,7 @@ class Files:
         self.copy("a.db", "-x.db")
         self.say("same.db", "same", SETUP + board("B1", 10))
         self.carry_on("a.db", "fork.db", board("B5", 20))
+        self.carry_on("b.db", "later-fork.db", board("B6", 40))
         self.carry_on("a.db", "e.db", SPENT + board("B1", 20))
         self.carry_on("a.db", "r.db", REELS)
         for name, text in LISTS.items():
@@ -241,6 +242,7 @@ def test_a_file_names_the_one_before_it_so_no_gap_and_no_other_order_has_an_answ
     [
         (["a.db", "b.db", "fork.db"], ["fork.db: follows a.db"]),
         (["a.db", "b.db", "c.db", "fork.db"], ["fork.db: follows a.db"]),
+        (["a.db", "b.db", "c.db", "later-fork.db"], ["later-fork.db: follows b.db"]),
         (["a.db", "c.db"], []),
         (["c.db", "b.db"], []),
     ],

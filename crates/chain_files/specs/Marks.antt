@@ -1,5 +1,5 @@
 -- From which file each desk of a chain was begun.
-use Rattle.std.specs.Prelude.{◌≡◌, ◌≤◌, ◌↔◌, ⊤, ℕ, Bool, false, IsTrue, List, [], ◌∷◌, Option, Some, None, length, string_bytes}
+use Rattle.std.specs.Prelude.{◌≡◌, ◌<◌, ◌≤◌, ◌↔◌, ⊤, ℕ, All, Bool, false, IsTrue, List, [], ◌∷◌, Option, Some, None, get_or, length, string_bytes, take}
 use Rattle.sqlite_disk.specs.declared.Disk as disk
 use Rattle.sqlite_disk.specs.declared.Files.{Files}
 use Rattle.sqlite_wal.specs.Files.{outcomes}
@@ -10,6 +10,8 @@ use Rattle.sha2.specs.Sha256.{sha256}
 use Rattle.hex.specs.Hex.{encode_lower}
 use Rattle.desk_laws.specs.Chain.{DeskFile}
 use Rattle.chain_stores.specs.Begin.{IsMarkOf}
+use Rattle.chain_files.specs.declared.chain.Fault.{Fault}
+use Rattle.chain_files.specs.declared.chain.Fault.TheVariants.{BegunFrom}
 use Rattle.chain_files.specs.declared.marks.Links.{Links}
 use Rattle.chain_files.specs.declared.marks.Wanted.{Wanted}
 use Rattle.chain_files.specs.declared.marks.Wanted.TheVariants.{Anything, Nothing, Checksum}
@@ -36,6 +38,21 @@ pub record OnlyReadFiles {D : Type 0} (g : disk.Ghosts D) (old new : Files D) : 
   pub same : image_of g new ≡ image_of g old
   pub leaves : (image : Image) → outcomes g new.log new.db image → outcomes g old.log old.db image
   pub clean : AreClean g new.log new.db → AreClean g old.log old.db
+
+-- ---- the file that another was begun from
+
+-- The mark of a fault names the checksum at this place, and none before it.
+abbrev pub Follows : Fault → List (List ℕ) → ℕ → Type 0
+Follows (BegunFrom mark) checksums place = (place < length checksums)
+    × NamesChecksum (get_or checksums place []) (string_bytes mark)
+    × All (λ checksum. ¬ NamesChecksum checksum (string_bytes mark)) (take place checksums)
+Follows fault checksums place = ⊥
+
+-- It names none of these checksums. Or the fault has no mark.
+abbrev pub FollowsNone : Fault → List (List ℕ) → Type 0
+FollowsNone (BegunFrom mark) checksums =
+    All (λ checksum. ¬ NamesChecksum checksum (string_bytes mark)) checksums
+FollowsNone fault checksums = ⊤
 
 -- ---- links
 

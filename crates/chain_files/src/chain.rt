@@ -1,6 +1,6 @@
 //! A recall over the files of a chain.
 
-ghost use Rattle.std.specs.Prelude.{◌≡◌, ◌<◌, ◌^◌, [], None, Some, List, ℕ, IfOk, IfErr, length, map, string_bytes};
+ghost use Rattle.std.specs.Prelude.{◌≡◌, ◌<◌, ◌^◌, [], None, Some, List, ℕ, IfErr, IfOk, IfSome, IsNone, length, map, string_bytes};
 ghost use Rattle.std.specs.Option.{option_map};
 ghost use Rattle.sqlite_wal.specs.Recovery.{Image};
 ghost use Rattle.desk_commands.specs.Closed.{ClosesConn};
@@ -13,7 +13,7 @@ ghost use Rattle.trace_reports.specs.Csv.{HasWritten};
 ghost use Rattle.chain_check.specs.Chained.{IsSoFar};
 ghost use Rattle.chain_stores.specs.Look.{Says};
 ghost use Rattle.chain_stores.specs.Begin.{IsMarkOf};
-ghost use Rattle.chain_files.specs.Marks.{IsWanted};
+ghost use Rattle.chain_files.specs.Marks.{Follows, FollowsNone, IsWanted};
 ghost use Rattle.chain_files.specs.declared.marks.Wanted.{Wanted};
 ghost use Rattle.chain_files.specs.Files.{Adds, Continues, HasWanted, IsRefused, IsWhyStopped, Recalled, Stops, Takes, close_of, files_in, placed};
 ghost use Rattle.chain_files.specs.Kept.{AddsKept, AreKept};
@@ -22,7 +22,7 @@ use crate::closed::{ClosedChain, add_closed};
 use crate::kept::desk_in;
 use crate::marks::{Links, Wanted, is_wanted, names_checksum, wanted_after, wanted_first};
 use crate::opener::Opener;
-use crate::paths::path_at;
+use crate::texts::text_at;
 use chain_check::{
     Chain, ChainFile, Difference, Question, ShownDifference, begin_rows, write_rows,
 };
@@ -348,7 +348,7 @@ pub fn recall_files<O: Opener, E: Write>(
     let mut seen = Vec::new(rt.alloc());
     for place in 0..paths.len() {
         let number = place as u64;
-        let path = path_at(paths, number);
+        let path = text_at(paths, number);
         let taken = match look_at(
             rt,
             opener,
@@ -431,20 +431,24 @@ fn tell_follows<E: Write>(
     let Some(earlier) = named_by(fault, seen) else {
         return;
     };
-    let (path, its) = (path_at(paths, place), path_at(paths, earlier));
+    let (path, its) = (text_at(paths, place), text_at(paths, earlier));
     if let Ok(line) = format!(in alloc; "tracedesk-chain: {path}: follows {its}") {
         tell_line(errors, line.as_str());
     }
 }
 
-/// Returns the place of the file that a fault names.
-fn named_by(fault: &Fault, seen: &[String]) -> Option<u64> {
+/// Returns the place of the first of these checksums that the mark of a fault names.
+fn named_by(fault: &Fault, seen: &[String]) -> Option<u64>
+    ensures some { IfSome result (Follows fault.now (map string_bytes seen.now)) }
+    ensures none { IsNone result → FollowsNone fault.now (map string_bytes seen.now) }
+{
     let Fault::BegunFrom(mark) = fault else {
         return None;
     };
     for place in 0..seen.len() {
-        if names_checksum(seen[place].as_str(), mark.as_str()) {
-            return Some(place as u64);
+        let number = place as u64;
+        if names_checksum(text_at(seen, number), mark.as_str()) {
+            return Some(number);
         }
     }
     None

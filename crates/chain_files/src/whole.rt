@@ -18,7 +18,7 @@ use crate::closed::ClosedChain;
 use crate::listed::{ListFault, question_of};
 use crate::marks::Links;
 use crate::opener::Opener;
-use crate::paths::path_at;
+use crate::texts::text_at;
 use crate::two_files::alike;
 use crate::words::{ChainCommand, HELP, VERSION, read_words};
 use chain_check::{Question, end_rows};
@@ -214,7 +214,7 @@ fn tell_stop<E: Write>(
         (stop_line (map string_bytes paths.now) stopped.now.place stopped.now.fault))
         ⊎ ((result ≡ 3) × TellsLine E.contents errors.old errors.new unavailable_line) }
 {
-    let path = path_at(paths, stopped.place);
+    let path = text_at(paths, stopped.place);
     match format!(in alloc; "tracedesk-chain: {path}: {}", stopped.fault) {
         Ok(line) => {
             tell_line(errors, line.as_str());

@@ -35,7 +35,7 @@ returns-in-Err-clause-stopped g c honest =
     let closed = files_in c.loop-place.closed in
     let after = files_in c.look_at.new.closed in
     let refused = subst (λ (path : List ℕ). IsRefused g.O.File.Disk (image path c.loop-place.place) closed after c.in-Err.fault)
-    c.path_at-path.ensures c.in-Err.ensures.refused in
+    c.text_at-path.ensures c.in-Err.ensures.refused in
     let before = c.loop-place.invariant.so_far
     (honest-before g.O.File.Disk (placed image paths) closed after refused.0 refused.1 honest) in
     inl (record {
@@ -56,7 +56,7 @@ returns-in-Err-add-clause-stopped g c honest =
     let paths = map string_bytes c.args.paths.now in
     let takes = c.in-Ok-look_at.ensures.takes in
     let said = subst (λ (path : List ℕ). AreClean g.O.File.Disk takes.0.log takes.0.db → HasOursFirst (image path c.loop-place.place)
-    → HoldsSaid g.O.File.Disk (image path c.loop-place.place) c.args.question.now takes.0 c.in-Ok-look_at.taken.looked) c.path_at-path.ensures takes.2 in
+    → HoldsSaid g.O.File.Disk (image path c.loop-place.place) c.args.question.now takes.0 c.in-Ok-look_at.taken.looked) c.text_at-path.ensures takes.2 in
     stopped g.O.File.Disk (placed image paths) c.args.question.now c.args.links (map string_bytes c.args.paths.now) c.loop-place.older c.loop-place.answer c.loop-place.place (files_in c.loop-place.closed) takes.0 c.in-Ok-look_at.taken (files_in c.look_at.new.closed) c.in-Err-add.fault takes.1
     was.count was.so_far said c.in-Err-add.ensures.err honest
 
@@ -69,13 +69,13 @@ loop-place-preserved g c =
     let paths = map string_bytes c.args.paths.now in
     let takes = c.in-Ok-look_at.ensures.takes in
     let said = subst (λ (path : List ℕ). AreClean g.O.File.Disk takes.0.log takes.0.db → HasOursFirst (image path c.loop-place.place)
-    → HoldsSaid g.O.File.Disk (image path c.loop-place.place) c.args.question.now takes.0 c.in-Ok-look_at.taken.looked) c.path_at-path.ensures takes.2 in
+    → HoldsSaid g.O.File.Disk (image path c.loop-place.place) c.args.question.now takes.0 c.in-Ok-look_at.taken.looked) c.text_at-path.ensures takes.2 in
     let long : length after ≡ length closed + 1 = ap length takes.1 ∙ length-append closed (takes.0 ∷ []) in
     record {
       few = c.tell_file.ensures.few;
       count = omega (arith, long, was.count);
-      kept = kept-more g.O.File.Disk image paths closed after c.loop-place.place _ c.path_at-path.ensures was.count was.kept c.look_at.ensures.kept;
-      so_far = added g.O.File.Disk (placed image paths) c.args.question.now c.args.links (map string_bytes c.args.paths.now) c.loop-place.older c.loop-place.answer c.loop-place.place closed takes.0 c.in-Ok-look_at.taken after c.in-Ok-add.longer c.add.new.answer takes.1 was.count was.so_far said takes.3 _ c.path_at-path.ensures c.in-Ok-add.ensures.wanted c.in-Ok-add.ensures.next c.in-Ok-add.ensures.ok;
+      kept = kept-more g.O.File.Disk image paths closed after c.loop-place.place _ c.text_at-path.ensures was.count was.kept c.look_at.ensures.kept;
+      so_far = added g.O.File.Disk (placed image paths) c.args.question.now c.args.links (map string_bytes c.args.paths.now) c.loop-place.older c.loop-place.answer c.loop-place.place closed takes.0 c.in-Ok-look_at.taken after c.in-Ok-add.longer c.add.new.answer takes.1 was.count was.so_far said takes.3 _ c.text_at-path.ensures c.in-Ok-add.ensures.wanted c.in-Ok-add.ensures.next c.in-Ok-add.ensures.ok;
     }
 
 pub returns-in_default-clause-stopped : goal.returns-in_default-clause-stopped
@@ -93,12 +93,12 @@ returns-in_default-clause-stopped g c honest = inl (record {
 pub returns-in-Err-clause-kept : goal.returns-in-Err-clause-kept
 returns-in-Err-clause-kept g c =
     let was = c.loop-place.invariant in
-    kept-more g.O.File.Disk (g.O.Opener.image c.args.opener.now) (map string_bytes c.args.paths.now) (files_in c.loop-place.closed) (files_in c.look_at.new.closed) c.loop-place.place _ c.path_at-path.ensures was.count was.kept c.look_at.ensures.kept
+    kept-more g.O.File.Disk (g.O.Opener.image c.args.opener.now) (map string_bytes c.args.paths.now) (files_in c.loop-place.closed) (files_in c.look_at.new.closed) c.loop-place.place _ c.text_at-path.ensures was.count was.kept c.look_at.ensures.kept
 
 pub returns-in-Err-add-clause-kept : goal.returns-in-Err-add-clause-kept
 returns-in-Err-add-clause-kept g c =
     let was = c.loop-place.invariant in
-    kept-more g.O.File.Disk (g.O.Opener.image c.args.opener.now) (map string_bytes c.args.paths.now) (files_in c.loop-place.closed) (files_in c.look_at.new.closed) c.loop-place.place _ c.path_at-path.ensures was.count was.kept c.look_at.ensures.kept
+    kept-more g.O.File.Disk (g.O.Opener.image c.args.opener.now) (map string_bytes c.args.paths.now) (files_in c.loop-place.closed) (files_in c.look_at.new.closed) c.loop-place.place _ c.text_at-path.ensures was.count was.kept c.look_at.ensures.kept
 
 pub returns-in_default-clause-kept : goal.returns-in_default-clause-kept
 returns-in_default-clause-kept g c = none-kept g.O.File.Disk (placed (g.O.Opener.image c.args.opener.now) (map string_bytes c.args.paths.now)) (files_in c.args.closed.now) c.requires.none
