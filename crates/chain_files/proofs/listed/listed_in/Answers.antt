@@ -8,7 +8,8 @@ use Rattle.std.proofs.lemmas.Result.{IfErr-weaker}
 use Rattle.chain_files.proofs.listed.listed_in.Goals as goal
 
 -- The fault of a list that isn't too long.
-its-fault : (file : Option (List ℕ)) (MayFail : Type 0) (bytes : List ℕ) → IsRead file bytes → length bytes ≤ LONGEST_INPUT
+its-fault : (file : Option (List ℕ)) (MayFail : Type 0) (bytes : List ℕ)
+    → IsRead file bytes → length bytes ≤ LONGEST_INPUT
     → (fault : ListFault) → (fault ≡ NoMemory) ⊎ ((line : ℕ) × (fault ≡ BadLine line) × IsBadLine bytes line)
     → IsFaultOfList file MayFail fault
 its-fault file MayFail bytes read short fault (inl is) = subst (IsFaultOfList file MayFail) (sym is) tt
