@@ -1,9 +1,12 @@
 //! A desk with the guard of its book, and the rows of a book.
 
+mod model;
+mod random;
+
 ghost use Rattle.std.specs.Prelude.{IfOk};
 ghost use Rattle.desk_types.specs.Desk.{HasRoom};
 
-use desk_types::{Command, Desk, Id, Listing, Minute, Reply, Rules, Stamped, run};
+use desk_types::{Command, Desk, Id, Listing, Minute, Replies, Reply, Rules, Stamped, run};
 use feeder_state::StateDesk;
 use line_book::{BookRow, Cause, Guard, Matter, Note, Reading, RowFault, Stock, restore};
 use std::alloc::Global;
@@ -53,15 +56,24 @@ fn is_refused(reply: &Reply) -> bool {
     matches!(reply, Reply::Refused(_))
 }
 
-/// Sends messages that are accepted.
-fn send<D: Desk>(alloc: Global, desk: &mut D, messages: &[Stamped]) -> Result<(), Fail>
+/// Sends messages.
+fn replies_of<D: Desk>(alloc: Global, desk: &mut D, messages: &[Stamped]) -> Result<Replies, Fail>
     requires { HasRoom D.Stands desk.old 100 }
-    ensures { IfOk result (λ done. HasRoom D.Stands desk.new 0) }
+    ensures { IfOk result (λ replies. HasRoom D.Stands desk.new 0) }
 {
     if messages.len() > 100 {
         return Err("too many messages")?;
     }
     let replies = run(alloc, desk, messages)?;
+    Ok(replies)
+}
+
+/// Sends messages that are accepted.
+fn send<D: Desk>(alloc: Global, desk: &mut D, messages: &[Stamped]) -> Result<(), Fail>
+    requires { HasRoom D.Stands desk.old 100 }
+    ensures { IfOk result (λ done. HasRoom D.Stands desk.new 0) }
+{
+    let replies = replies_of(alloc, desk, messages)?;
     if replies.as_slice().iter().any(is_refused) {
         return Err("a message is refused")?;
     }
