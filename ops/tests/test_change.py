@@ -15,7 +15,7 @@ from lab import files
 from lab.folders import CALLS, audit, line_of, rolled_over, seal
 from lab.killed import killed_at
 from tracedesk_ops import change, copies, lineage, plant, sealed
-from tracedesk_ops.line import LineFolder
+from tracedesk_ops.line import LineFolder, NotALine
 
 Path = pathlib.Path
 
@@ -32,6 +32,16 @@ def restored(line: LineFolder, file: sealed.Sealed) -> change.RestorePlan:
     its = change.plan(line, file)
     change.restore(line, its, audit)
     return its
+
+
+def test_a_work_folder_of_others_is_not_emptied(tmp_path: Path) -> None:
+    theirs = tmp_path / "work/theirs"
+    theirs.parent.mkdir()
+    theirs.write_text("a year of it")
+    with pytest.raises(NotALine, match="is no line's folder"), LineFolder(tmp_path).changed():
+        raise AssertionError("the folder was taken for a line's")
+    assert theirs.read_text() == "a year of it"
+    assert [it.name for it in tmp_path.iterdir()] == ["work"]
 
 
 def uids(file: Path) -> list[str]:

@@ -58,14 +58,14 @@ from collections.abc import Callable, Sequence
 
 from tracedesk_ops import carry, change, check, lineage, options, places, plant
 from tracedesk_ops import reader_of, rollover, sealing, successor
-from tracedesk_ops.line import Busy, LineFolder
+from tracedesk_ops.line import Busy, LineFolder, NotALine
 from tracedesk_ops.sealed import Sealed
 from tracedesk_ops.service import Service
 
 Path = pathlib.Path
 
 DONE, NO, NOT_NOW, SEE_TO_IT = 0, 1, 3, 4
-FAULTS = (*plant.FAULTS, Busy, carry.NotCarried)
+FAULTS = (*plant.FAULTS, Busy, NotALine, carry.NotCarried)
 
 
 def audit_of(asked: argparse.Namespace) -> sealing.Audit:

@@ -25,6 +25,16 @@ class Busy(Exception):
         super().__init__(f"another tool works in {path}: ask again when it has ended")
 
 
+class NotALine(Exception):
+    """A folder that is no line's, with a work/ that somebody else made."""
+
+    def __init__(self, path: pathlib.Path) -> None:
+        super().__init__(
+            f"{path} is no line's folder: it has a work/ and no sealed/, and that work/ would be"
+            " emptied. Name the folder of a line"
+        )
+
+
 @dataclasses.dataclass(frozen=True)
 class LineFolder:
     """The folder of a line. Its name is the line's."""
@@ -81,5 +91,8 @@ class LineFolder:
             self.clear()
 
     def clear(self) -> None:
-        if self.work.exists():
-            shutil.rmtree(self.work)
+        if not self.work.exists():
+            return
+        if not self.sealed.is_dir():
+            raise NotALine(self.path)
+        shutil.rmtree(self.work)
