@@ -11,7 +11,8 @@ import sqlite3
 from collections.abc import Iterable, Iterator, Sequence
 from typing import NamedTuple
 
-from tracedesk_ops import around, attributes, catalogue, copies, doubtful, store, stored
+from tracedesk_ops import around, attributes, catalogue, copies, doubtful, heads, sealed, stored
+from tracedesk_ops.line import LineFolder
 from tracedesk_ops.recalls.desk import Line, Question
 
 REELS = "SELECT reel, part, lot FROM reel"
@@ -81,7 +82,7 @@ class Known:
                 try:
                     with opened(file, is_running) as database:
                         self.read(database)
-                        self.books[line.catalogue.parent].update(store.heads_in(database).books)
+                        self.books[line.folder].update(heads.all_recorded_in(database))
                 except (OSError, sqlite3.Error, catalogue.CatalogueError) as fault:
                     self.faults.append(f"{line.name}: the reels of {file} aren't known: {fault}")
 
@@ -151,14 +152,12 @@ class Asked(NamedTuple):
 
 def files_of(line: Line) -> Iterator[tuple[pathlib.Path, bool]]:
     """The archives of a line, and the running desk's file."""
-    reader = store.Reader(believes_names=True, without_logs=True)
-    desks = [line.desk] if line.desk else []
-    folder = around.Folder(line.catalogue.parent, [line.name], desks, reader)
-    for archive in folder.survey().archives:
-        if archive.desk == line.name:
-            yield catalogue.path_of(line.catalogue, archive), False
+    survey = around.survey(LineFolder(line.folder), line.name, sealed.named)
+    last = [survey.last] if survey.last and not line.url else []
+    for archive in (*survey.archives, *last):
+        yield catalogue.path_of(line.folder, archive), False
     if line.url:
-        yield line.desk or line.catalogue.parent.parent / "desk", True
+        yield LineFolder(line.folder).desk, True
 
 
 @contextlib.contextmanager
@@ -199,8 +198,8 @@ def where(terms: Terms, known: Known, lines: Sequence[Line]) -> Asked:
     """
     faults = list(known.faults)
     told: dict[str, attributes.Reel] = {}
-    for archive in dict.fromkeys(line.catalogue.parent for line in lines):
-        rows, wrong = attributes.rows_of(archive, known.books[archive])
+    for line in lines:
+        rows, wrong = attributes.rows_of(LineFolder(line.folder).sealed, known.books[line.folder])
         told |= attributes.newest(rows)
         faults += wrong
     those = {reel: [its] for reel, its in told.items()}
