@@ -151,7 +151,7 @@ def test_a_later_row_takes_the_place_of_the_one_before(line: Line, book: pathlib
 @pytest.mark.gate
 def test_roots_book_belongs_to_the_line(folder: pathlib.Path) -> None:
     """Else the recalls of the page, which are run by the line's user, could not read it."""
-    archive, inbox = folder / "sealed", folder / "untraced"
+    archive, inbox = folder / "archive", folder / "untraced"
     for path in (archive, inbox):
         path.mkdir()
         os.chown(path, *NOBODY)

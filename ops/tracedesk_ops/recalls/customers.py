@@ -29,10 +29,10 @@ def serials_of(shipped: Shipped, customer: str) -> dict[str, str]:
 def unknown(recall: Recall, serials: Iterable[str]) -> set[str]:
     """The serials that no file and no running desk of the lines knows."""
     left = set(serials)
-    for line in recall.here:
-        for archive in recall.own(line) if left else ():
+    for path, survey in recall.catalogues.items():
+        for archive in survey.archives if left else ():
             with contextlib.suppress(OSError, sqlite3.Error):
-                with catalogue.opened(catalogue.path_of(line.folder, archive)) as database:
+                with catalogue.opened(catalogue.path_of(path, archive)) as database:
                     left -= {its for its in left if copies.rows(database, KNOWN, its)}
     for desk in recall.desks.values():
         with contextlib.suppress(plant.Fault):
@@ -98,7 +98,7 @@ def contents(
     told["twice"] = ["pieces are there twice in these lines' files"] if recall.doubts else []
     for line in told["lines"]:
         line["running_desk"] = bool(line["running_desk"])
-        line["folder"] = None
+        line["catalogue"] = None
         for name in line.keys() & {"host", "evidence"}:
             line[name] = None
         for archive in line["archives"]:

@@ -11,8 +11,7 @@ import sqlite3
 from collections.abc import Iterable, Iterator, Sequence
 from typing import NamedTuple
 
-from tracedesk_ops import around, attributes, catalogue, copies, doubtful, heads, sealed, stored
-from tracedesk_ops.line import LineFolder
+from tracedesk_ops import around, attributes, catalogue, copies, doubtful, store, stored
 from tracedesk_ops.recalls.desk import Line, Question
 
 REELS = "SELECT reel, part, lot FROM reel"
@@ -82,7 +81,7 @@ class Known:
                 try:
                     with opened(file, is_running) as database:
                         self.read(database)
-                        self.books[line.folder].update(heads.all_recorded_in(database))
+                        self.books[line.catalogue.parent].update(store.heads_in(database).books)
                 except (OSError, sqlite3.Error, catalogue.CatalogueError) as fault:
                     self.faults.append(f"{line.name}: the reels of {file} aren't known: {fault}")
 
@@ -152,12 +151,14 @@ class Asked(NamedTuple):
 
 def files_of(line: Line) -> Iterator[tuple[pathlib.Path, bool]]:
     """The archives of a line, and the running desk's file."""
-    survey = around.survey(LineFolder(line.folder), line.name, sealed.named)
-    last = [survey.last] if survey.last and not line.url else []
-    for archive in (*survey.archives, *last):
-        yield catalogue.path_of(line.folder, archive), False
+    reader = store.Reader(believes_names=True, without_logs=True)
+    desks = [line.desk] if line.desk else []
+    folder = around.Folder(line.catalogue.parent, [line.name], desks, reader)
+    for archive in folder.survey().archives:
+        if archive.desk == line.name:
+            yield catalogue.path_of(line.catalogue, archive), False
     if line.url:
-        yield LineFolder(line.folder).desk, True
+        yield line.desk or line.catalogue.parent.parent / "desk", True
 
 
 @contextlib.contextmanager
@@ -198,8 +199,8 @@ def where(terms: Terms, known: Known, lines: Sequence[Line]) -> Asked:
     """
     faults = list(known.faults)
     told: dict[str, attributes.Reel] = {}
-    for line in lines:
-        rows, wrong = attributes.rows_of(LineFolder(line.folder).sealed, known.books[line.folder])
+    for archive in dict.fromkeys(line.catalogue.parent for line in lines):
+        rows, wrong = attributes.rows_of(archive, known.books[archive])
         told |= attributes.newest(rows)
         faults += wrong
     those = {reel: [its] for reel, its in told.items()}
