@@ -63,13 +63,13 @@ Move = tuple[str, str, str]  # the beginning of its UniqueIDs, a side, and a ree
 
 
 class Known:
-    """What the files of all lines know of reels: `cards` has the parts and lots of each name, `old`
-    and `new` the names of each move, `books` the heads that desks have recorded of books, and
-    `faults` what could not be looked at.
+    """What the files of all lines know of reels: `cards` has a reel's part and lot, `old` and `new`
+    the names of each move, `books` the heads that desks have recorded of books, and `faults` what
+    could not be looked at.
     """
 
     def __init__(self, lines: Sequence[Line]) -> None:
-        self.cards: dict[str, dict[attributes.Reel, None]] = collections.defaultdict(dict)
+        self.cards: dict[str, attributes.Reel] = {}
         self.old: dict[str, set[str]] = collections.defaultdict(
             set
         )  # by the beginning of UniqueIDs
@@ -87,7 +87,7 @@ class Known:
 
     def read(self, database: sqlite3.Connection) -> None:
         for row in copies.rows(database, REELS):
-            self.cards[row[0]][attributes.Reel(*row)] = None
+            self.cards[row[0]] = attributes.Reel(*row)
         for uid, command in copies.rows(database, MOVES):
             if found := MOVE.fullmatch(uid):
                 word, body = stored.body(command)
@@ -104,16 +104,6 @@ class Known:
         """Adds moves that are known elsewhere."""
         for move, side, reel in moves:
             (self.old if side == OLD else self.new)[move].add(reel)
-
-    def twice(self, reels: Iterable[str]) -> Iterator[str]:
-        """Which of these names are of several receipts: a set of reels is a set of names."""
-        for reel in sorted(reels):
-            if len(cards := self.cards[reel]) > 1:
-                lots = " and of ".join(f"{card.part}, lot {card.lot}" for card in cards)
-                yield (
-                    f"the name {reel} is of {lots}: boards of each are in the answer. Ask for one"
-                    " lot at a time"
-                )
 
     def followed(self, reels: Iterable[str]) -> list[str]:
         """The reels with all names that they have had."""
@@ -184,12 +174,12 @@ def question_of(kind: str, names: Sequence[str], part: str, lines: Sequence[Line
         its = Question("reels", title(kind, reels, ""), "", tuple(reels))
         return Asked(its if len(reels) > 1 else Question(kind, names[0]), [], notes, known)
     if kind == "lot":
-        cards = [card for those in known.cards.values() for card in those]
-        of_lots = {its.reel for its in cards if its.lot in names and part in ("", its.part)}
+        cards = known.cards.values()
+        of_lots = [its.reel for its in cards if its.lot in names and part in ("", its.part)]
         its = Question("reels", title(kind, names, part), "", tuple(sorted(of_lots)))
         unknown = [lot for lot in names if not any(card.lot == lot for card in cards)]
         notes = [f"no line here knows the lot {lot}" for lot in unknown]
-        return Asked(its, [*known.faults, *known.twice(of_lots)], notes)
+        return Asked(its, known.faults, notes)
     return where(terms_of(names), known, lines)
 
 
@@ -203,11 +193,9 @@ def where(terms: Terms, known: Known, lines: Sequence[Line]) -> Asked:
         rows, wrong = attributes.rows_of(archive, known.books[archive])
         told |= attributes.newest(rows)
         faults += wrong
-    those = {reel: [its] for reel, its in told.items()}
-    for reel, cards in known.cards.items():  # what a desk knows counts
-        its = [told.get(reel, card)._replace(part=card.part, lot=card.lot) for card in cards]
-        those[reel] = its
-    lacking = sorted(reel for reel, its in those.items() if any(map(terms.lack, its)))
+    for reel, card in known.cards.items():  # what a desk knows counts
+        told[reel] = told.get(reel, card)._replace(part=card.part, lot=card.lot)
+    lacking = sorted(reel for reel, its in told.items() if terms.lack(its))
     if lacking:
         named = ", ".join(lacking[:MOST_NAMED])
         more = f" and {len(lacking) - MOST_NAMED} more" if len(lacking) > MOST_NAMED else ""
@@ -215,7 +203,5 @@ def where(terms: Terms, known: Known, lines: Sequence[Line]) -> Asked:
             f"the attributes of {len(lacking)} reels aren't known, so they may be of this recall:"
             f" {named}{more}. Give them by tracedesk-reels add"
         )
-    taken = sorted(reel for reel, its in those.items() if any(map(terms.take, its)))
-    reels = known.followed(taken)
-    faults += known.twice(taken)
+    reels = known.followed(sorted(reel for reel, its in told.items() if terms.take(its)))
     return Asked(Question("reels", str(terms), "", tuple(reels)), faults, [], known)
