@@ -2,3 +2,4 @@ pub mod Files
 pub mod Found
 pub mod Memory
 pub mod Refused
+pub mod Unread

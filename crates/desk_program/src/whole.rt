@@ -71,8 +71,12 @@ fn close_run<T: Start>(
             Ok(files) => Ok(Some(files)),
             Err((_, files)) => Err(Some(files)),
         },
-        ToClose::Refused(RefusedFile { fault: _, file }) => match file {
-            None => Ok(None),
+        ToClose::Refused(RefusedFile {
+            fault: _,
+            file,
+            unread,
+        }) => match file {
+            None => Ok(unread),
             Some(file) => match close_file(file) {
                 Ok(files) => Ok(Some(files)),
                 Err((_, files)) => Err(Some(files)),
