@@ -29,7 +29,6 @@ use Rattle.line_schema.specs.declared.store.LineStore.{LineStore}
 use Rattle.line_schema.specs.Stands.{HasFailed, conn_of}
 use Rattle.desk_file.specs.Files.{Begins, Closes, Copies, HasOursFirst, IsFoundIn, IsLeft, IsOfOne, IsWhole, KeepsTables, Leaves, MayRead, ReadsAs}
 use Rattle.desk_file.specs.Refused.{IsFaultFor, IsFaultIn, LeavesMade, idle_state}
-use Rattle.desk_file.specs.Unread.{IsUnreadAt}
 use Rattle.desk_commands.specs.declared.left.ToClose.{ToClose}
 use Rattle.desk_commands.specs.declared.left.ToClose.TheVariants.{Nothing, Desk, Migrated, Refused}
 
@@ -60,7 +59,7 @@ ClosesLeft how Nothing files = files ≡ None
 ClosesLeft how (Desk desk) files = IsSomeAnd files (ClosesDesk how desk)
 ClosesLeft how (Migrated conn) files = IsSomeAnd files (ClosesConn how conn)
 ClosesLeft how (Refused r) files =
-    MatchOption r.file (files ≡ r.unread) (λ conn. IsSomeAnd files (ClosesConn how conn))
+    MatchOption r.file (files ≡ None) (λ conn. IsSomeAnd files (ClosesConn how conn))
 
 -- ---- contents of the files
 
@@ -144,9 +143,3 @@ abbrev pub RefusesToMigrateTo : {T D : Type 0} → Close → start.Ghosts T → 
     → Option (Files D) → OpenFault → Type 0
 RefusesToMigrateTo how first g files =
     IsRefusedTo how first g files (IsFaultIn (image_at first) One) LeavesMigrated ⊤
-
--- No database could be opened in the files, and they weren't written over.
-abbrev pub IsUnreadTo : {T D : Type 0} → start.Ghosts T → disk.Ghosts D → Option (Files D)
-    → OpenFault → Type 0
-IsUnreadTo first g files fault =
-    (fault ≡ Unavailable) × IsSomeAnd files (IsUnreadAt g (image_at first))

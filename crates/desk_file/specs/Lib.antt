@@ -2,4 +2,3 @@ pub mod Files
 pub mod Found
 pub mod Memory
 pub mod Refused
-pub mod Unread

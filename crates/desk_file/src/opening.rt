@@ -14,7 +14,7 @@ ghost use Rattle.line_tables.specs.Rows.{HoldsAt, blank};
 ghost use Rattle.line_schema.specs.declared.fault.OpenFault.TheVariants as Fault;
 ghost use Rattle.line_schema.specs.Stands.{Kept, Stands, conn_of, state_of};
 ghost use Rattle.desk_file.specs.Files.{Begins, Closes, Copies, FindsNoTable, HasOursFirst, KeepsTables, Leaves, MigratedFrom};
-ghost use Rattle.desk_file.specs.Refused.{IsFaultFor, IsFaultIn, IsRefused, IsUnfound, LeavesMade, RefusesMigration, RefusesRun};
+ghost use Rattle.desk_file.specs.Refused.{IsFaultFor, IsFaultIn, IsRefused, LeavesMade, RefusesMigration, RefusesRun};
 
 use crate::path::open_path;
 use crate::refusal::RefusedFile;
@@ -34,8 +34,7 @@ pub type DeskFile<T> = Connection<FileStore<FileFrom<T>>>;
 
 /// Opens the desk in the file at a path. If the file is missing or empty, a desk with an empty history is made if
 /// `make` gives its greatest number, from 1 to 1,000,000,000; otherwise the fault is NotADesk. A path that is no
-/// regular file, or can't be opened, is Unavailable. A refused file is returned unchanged, and so are the files in which no
-/// database can be opened.
+/// regular file, or can't be opened, is Unavailable. A refused file is returned unchanged.
 pub fn open_desk<T: Start, D: KeepsRows + Drop>(
     rt: &HostRuntime,
     path: &str,
@@ -62,7 +61,6 @@ pub fn open_desk<T: Start, D: KeepsRows + Drop>(
         None if is_blank => Err(RefusedFile {
             fault: OpenFault::NotADesk,
             file: None,
-            unread: None,
         }),
         _ => kept_desk(rt, path, start),
     }
@@ -85,7 +83,6 @@ pub fn migrate_desk<T: Start, D: KeepsRows + Drop>(
         return Err(RefusedFile {
             fault: OpenFault::NotADesk,
             file: None,
-            unread: None,
         });
     }
     let mut conn = connect(rt, path, start)?;
@@ -94,7 +91,6 @@ pub fn migrate_desk<T: Start, D: KeepsRows + Drop>(
         Err(fault) => Err(RefusedFile {
             fault,
             file: Some(conn),
-            unread: None,
         }),
     }
 }
@@ -131,11 +127,11 @@ pub fn close_file<D: Disk + Drop>(
 
 /// Returns whether the path has no file, or an empty one.
 fn is_blank<T: Start>(rt: &HostRuntime, path: &str) -> Result<bool, RefusedFile<FileFrom<T>>>
-    ensures { IfErr result (IsUnfound (image_at T.Start)) }
+    ensures { IfErr result (λ r. r ≡ record { fault = Fault.Unavailable; file = None }) }
 {
     match is_empty_at(rt, path) {
         Ok(empty) => Ok(empty),
-        Err(_) => Err(not_looked_at()),
+        Err(_) => Err(no_connection()),
     }
 }
 
@@ -166,13 +162,12 @@ fn has_no_byte(found: &Metadata) -> Option<bool>
     }
 }
 
-fn not_looked_at<T: Start>() -> RefusedFile<FileFrom<T>>
-    ensures { IsUnfound (image_at T.Start) result }
+fn no_connection<T: Start>() -> RefusedFile<FileFrom<T>>
+    ensures { result ≡ record { fault = Fault.Unavailable; file = None } }
 {
     RefusedFile {
         fault: OpenFault::Unavailable,
         file: None,
-        unread: None,
     }
 }
 
@@ -204,7 +199,6 @@ fn new_desk<T: Start, D: KeepsRows + Drop>(
         Err((fault, conn)) => Err(RefusedFile {
             fault,
             file: Some(conn),
-            unread: None,
         }),
     }
 }
@@ -231,7 +225,6 @@ fn kept_desk<T: Start, D: KeepsRows + Drop>(
         Err((fault, conn)) => Err(RefusedFile {
             fault,
             file: Some(conn),
-            unread: None,
         }),
     }
 }
@@ -246,14 +239,10 @@ fn connect<T: Start>(
     ensures found { IfOk result (λ conn. HasCleanDisk (file_state conn)
         → FindsAs (image_at T.Start) (file_state conn)) }
     ensures mode { IfOk result (λ conn. conn.in_transaction ≡ false) }
-    ensures err { IfErr result (IsUnfound (image_at T.Start)) }
+    ensures err { IfErr result (λ r. r ≡ record { fault = Fault.Unavailable; file = None }) }
 {
     match open_path(rt, path, start) {
         Ok(conn) => Ok(conn),
-        Err(unread) => Err(RefusedFile {
-            fault: OpenFault::Unavailable,
-            file: None,
-            unread,
-        }),
+        Err(_) => Err(no_connection()),
     }
 }

@@ -71,12 +71,8 @@ fn close_run<T: Start>(
             Ok(files) => Ok(Some(files)),
             Err((_, files)) => Err(Some(files)),
         },
-        ToClose::Refused(RefusedFile {
-            fault: _,
-            file,
-            unread,
-        }) => match file {
-            None => Ok(unread),
+        ToClose::Refused(RefusedFile { fault: _, file }) => match file {
+            None => Ok(None),
             Some(file) => match close_file(file) {
                 Ok(files) => Ok(Some(files)),
                 Err((_, files)) => Err(Some(files)),
