@@ -15,7 +15,7 @@ from typing import Any, Iterator, Sequence
 
 from tracedesk_dev.case_files import CASES, BytesOf, Step, bytes_of_text, object_line
 from tracedesk_dev.case_steps import SECONDS_FOR_A_RUN, SECONDS_FOR_AN_ANSWER
-from tracedesk_dev.case_steps import compare, compare_end, limited, next_line, words_of
+from tracedesk_dev.case_steps import compare, compare_end, limited, next_line, wanted_of, words_of
 from tracedesk_dev.ports import lent
 from tracedesk_dev.trial import Difference
 
@@ -200,7 +200,7 @@ def clients(program: str, step: Step, bytes_of: BytesOf, work: pathlib.Path) -> 
                 timeout=SECONDS_FOR_A_RUN,
             )
             compare("standard error of the client", b"", asked.stderr)
-            compare("standard output of the client", bytes_of(step.get("output")), asked.stdout)
+            compare("standard output of the client", wanted_of(step, bytes_of), asked.stdout)
             out, errors = process.communicate(timeout=SECONDS_FOR_AN_ANSWER)
         except subprocess.TimeoutExpired as late:
             said = (late.output or b"")[-1000:].decode(errors="replace")

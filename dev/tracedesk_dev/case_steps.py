@@ -53,7 +53,9 @@ def compare(stream: str, wanted: bytes, got: bytes) -> None:
 
 
 def wanted_of(step: Step, bytes_of: BytesOf) -> bytes:
-    """The wanted standard output: a file of the case, or one object."""
+    """The wanted standard output: a file of the case, a short text, or one object."""
+    if "prints" in step:
+        return bytes_of_text(step["prints"])
     return object_line(step["answer"]) if "answer" in step else bytes_of(step.get("output"))
 
 
@@ -149,7 +151,7 @@ def tool(program: str, step: Step, bytes_of: BytesOf, work: pathlib.Path) -> Non
         for name, text in zip(("it", "standard error", "the desk"), [*said, served(work)]):
             late += f"; {name} said {text[-2000:].decode('utf-8', 'backslashreplace')!r}"
         raise Difference(late)
-    compare("standard output", bytes_of(step.get("output")), said[0])
+    compare("standard output", wanted_of(step, bytes_of), said[0])
     compare_end(step, said[1], process.returncode)
 
 
