@@ -24,6 +24,7 @@ pytestmark = [
 ]
 
 NAMES = ("tracedesk", "tracedesk-plant", "tracedesk-send")
+FOR_CONTRIBUTORS = "CONTRIBUTING|DECISIONS|architecture|lesson"  # pages in no package
 
 
 def run(*words: object, **how: Any) -> "subprocess.CompletedProcess[str]":
@@ -76,6 +77,14 @@ def test_the_same_program_and_sources_give_the_same_bytes(packages: Packages) ->
         assert file.read_bytes() == (packages.second / file.name).read_bytes(), file.name
 
 
+def test_the_code_of_others_is_listed() -> None:
+    """The list in SPDX and the licences are of what crates.txt and the kit's libraries name."""
+    if shutil.which("rt") is None:
+        pytest.skip("there is no kit")
+    done = run(ROOT / "dev/sbom", "--check")
+    assert (done.returncode, done.stdout) == (0, "")
+
+
 def test_each_file_for_a_plant_is_there(packages: Packages) -> None:
     """Each unit, list of users and folders, tool, module, page of the station and document; and
     the bytes of the programs are theirs.
@@ -92,11 +101,15 @@ def test_each_file_for_a_plant_is_there(packages: Packages) -> None:
         (r"examples/(bridge/[^/]*)", r"usr/lib/tracedesk/\1"),
         (r"(station/[^/]*)", r"usr/share/tracedesk/\1"),
         (r"docs/(api/.*\.json)", r"usr/share/doc/tracedesk/\1"),
-        (r"(?:docs/)?([^/]*)\.md", r"usr/share/doc/tracedesk/\1.html"),
+        (rf"(?:docs/)?(?!(?:{FOR_CONTRIBUTORS})\.)([^/]*)\.md", r"usr/share/doc/tracedesk/\1.html"),
+        (r"packaging/(.*\.spdx\.json)", r"usr/share/doc/tracedesk/\1"),
+        (r"packaging/(third-parties\.txt)", r"usr/share/doc/tracedesk/\1.gz"),
     )
     wanted = {
         re.sub(form, at, it) for it in tracked for form, at in places if re.fullmatch(form, it)
     }
+    pages = {it.stem for it in (packages.deb / "usr/share/doc").rglob("*.html")}
+    assert not pages & set(FOR_CONTRIBUTORS.split("|"))
     assert len(wanted) > 200 and [it for it in wanted if not (packages.deb / it).is_file()] == []
     chain = plant.chain_of(packages.program)
     for name, its in (("tracedesk", packages.program), ("tracedesk-chain", str(chain))):
@@ -125,7 +138,7 @@ def test_each_command_has_a_help_with_examples_the_version_and_a_man_page(
 
 def test_no_link_of_a_document_leads_nowhere(packages: Packages) -> None:
     pages = sorted((packages.deb / "usr/share/doc").glob("tracedesk*/*.html"))
-    assert len(pages) > 30
+    assert len(pages) > 25
     for page in pages:
         for link in re.findall(r'href="([^"#:]+)["#]', page.read_text(encoding="utf-8")):
             assert (page.parent / link).exists(), (page, link)
