@@ -1,9 +1,13 @@
 pub mod DeskRows
 pub mod ListsAfter
 pub mod Lookup
+pub mod NotedOn
+pub mod NotedTogether
+pub mod Numbered
 pub mod Others
 pub mod ReadOfCommitted
 pub mod StandsAfter
 pub mod TracesOfLists
 pub mod UnansweredCommands
+pub mod Verdicts
 pub mod Versions

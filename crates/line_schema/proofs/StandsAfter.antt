@@ -34,7 +34,7 @@ judged_for F (Some w) H change h works = h (basis Two H) works.stands
 pub works_for : {D : Type 0} (F : D → Basis → Type 0) (o : Option (Working D)) (w : Working D) (H : History) → o ≡ Some w → WorksFor F o H → IsWorking F w (basis Two H)
 works_for F o w H is works = subst (λ o. WorksFor F o H) is works
 
-lawful_on : (greatest : _) (H : History) (s : Stamped) → IsLawful Two greatest H → IsJudged Two (accept H s) → earlier_answer H s ≡ None → length H < greatest → IsLawful Two greatest (accept H s)
+pub lawful_on : (greatest : _) (H : History) (s : Stamped) → IsLawful Two greatest H → IsJudged Two (accept H s) → earlier_answer H s ≡ None → length H < greatest → IsLawful Two greatest (accept H s)
 lawful_on greatest H s lawful judged none room = record {
   judged = judged;
   uids = IsDistinct-cons same s.uid (map (λ (e : Entry). e.stamped.uid) H) (first-uid H s none) lawful.uids;

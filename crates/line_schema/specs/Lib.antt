@@ -8,3 +8,6 @@ pub mod Frames
 pub mod Versions
 pub mod Samples
 pub mod Unanswered
+pub mod Book
+pub mod Verdict
+pub mod Checking

@@ -14,5 +14,5 @@ pub use desk_answers::Answer;
 pub use fault::OpenFault;
 pub use line_replay::StateTable;
 pub use line_traces::PlacedRows;
-pub use store::LineStore;
+pub use store::{LineStore, Verdict};
 pub use unavailable::Unavailable;

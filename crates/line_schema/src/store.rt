@@ -20,9 +20,12 @@ ghost use Rattle.line_schema.specs.Answered.{Answers, AnswersOrFails, Commits, I
 ghost use Rattle.line_schema.specs.Opened.{MakesStore, OpensStore};
 ghost use Rattle.line_schema.specs.Traces.{working_of};
 
+mod book;
+mod checking;
 mod crash;
 mod migration;
 mod traces;
+mod verdict;
 mod view;
 
 use crate::fault::OpenFault;
@@ -37,6 +40,7 @@ use line_traces::Working;
 use sqlite::{Alter, Connection};
 use state_rows::{KeepsRows, TraceLists};
 use std::alloc::Global;
+pub use verdict::Verdict;
 
 /// A desk whose accepted commands are kept in the tables of a database. A command is answered
 /// Accepted once it is committed. After a restart the history is read again.
