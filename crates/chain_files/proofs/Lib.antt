@@ -1,6 +1,5 @@
-mod RefusedFiles
 pub mod Answered
 pub mod KeptFiles
 pub mod OneFileMore
 pub mod ReadWords
-pub mod Told
+mod RefusedFiles

@@ -3,4 +3,3 @@ pub mod FirstLists
 pub mod Making
 pub mod RefusedFiles
 pub mod Truth
-pub mod UnreadFiles
