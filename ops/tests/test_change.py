@@ -15,7 +15,7 @@ from lab import files
 from lab.folders import CALLS, audit, line_of, rolled_over, seal
 from lab.killed import killed_at
 from tracedesk_ops import change, copies, lineage, plant, sealed
-from tracedesk_ops.line import LineFolder, NotALine
+from tracedesk_ops.line import WORK, LineFolder, NotALine
 
 Path = pathlib.Path
 
@@ -34,14 +34,22 @@ def restored(line: LineFolder, file: sealed.Sealed) -> change.RestorePlan:
     return its
 
 
-def test_a_work_folder_of_others_is_not_emptied(tmp_path: Path) -> None:
-    theirs = tmp_path / "work/theirs"
-    theirs.parent.mkdir()
-    theirs.write_text("a year of it")
-    with pytest.raises(NotALine, match="is no line's folder"), LineFolder(tmp_path).changed():
-        raise AssertionError("the folder was taken for a line's")
-    assert theirs.read_text() == "a year of it"
-    assert [it.name for it in tmp_path.iterdir()] == ["work"]
+def test_a_folder_of_others_stays_as_it_is(tmp_path: Path) -> None:
+    names = ["work", WORK]
+    for name in names:
+        (tmp_path / name).mkdir()
+        (tmp_path / name / "theirs").write_text("a year of it")
+    for is_new in (False, True):
+        with pytest.raises(NotALine, match="is no line's folder"):
+            with LineFolder(tmp_path).changed(is_new):
+                raise AssertionError("the folder was taken for a line's")
+    assert sorted(it.name for it in tmp_path.iterdir()) == sorted(names)
+    assert {(tmp_path / name / "theirs").read_text() for name in names} == {"a year of it"}
+
+
+def test_the_whole_disk_is_no_line() -> None:
+    with pytest.raises(NotALine), LineFolder(Path("/")).held(is_new=True):
+        raise AssertionError("the disk was taken for a line's folder")
 
 
 def uids(file: Path) -> list[str]:

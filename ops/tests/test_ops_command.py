@@ -52,6 +52,19 @@ def called(folder: Path, monkeypatch: pytest.MonkeyPatch) -> Called:
     return Called(line, monkeypatch)
 
 
+@pytest.mark.parametrize("subcommand", [name for name in cli.SUBCOMMANDS if name != "make"])
+def test_a_folder_without_a_line_stays_as_it_is(
+    called: Called, subcommand: str, capsys: pytest.CaptureFixture[str]
+) -> None:
+    called.line.desk.unlink()
+    theirs = called.line.path / "work/theirs"
+    theirs.parent.mkdir()
+    theirs.write_text("a year of it")
+    assert called.ends(subcommand) == 3
+    assert "is no line's folder" in capsys.readouterr().err
+    assert sorted(called.line.path.rglob("*")) == [theirs.parent, theirs]
+
+
 def test_seals_of_a_line_that_goes_on_end_with_0_and_three_are_kept(called: Called) -> None:
     for number in range(6):
         files.accept(called.line.desk, [f"b-{number}"])

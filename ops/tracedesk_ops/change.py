@@ -1,4 +1,4 @@
-"""The changes of a line's desk: each is prepared in work/, and one rename makes it.
+"""The changes of a line's desk: each is prepared apart, and one rename makes it.
 
 A restore puts a sealed file in the desk's place. The desk that is there is copied to lost/ first,
 whole: what it has and the restored history has not is lacking until its senders have sent it again.
@@ -169,7 +169,7 @@ def make(line: LineFolder, program: plant.Program) -> None:
     """Makes the first desk of a line: an empty one."""
     if line.desk.exists() or line.sealed.is_dir() and sealed.paths_in(line.sealed):
         raise NotChanged(f"{line.path} has a desk or sealed files: restore one of these")
-    with line.changed() as work:
+    with line.changed(is_new=True) as work:
         new = work / "desk"
         done = program.run("feed", "--db", new, input="", capture_output=True, **plant.TEXT)
         if done.returncode:
@@ -187,7 +187,7 @@ def take_over(line: LineFolder, folder: Path, audit: sealing.Audit) -> Sealed:
     """
     archive = folder / "archive"
     aside = store.files_aside(archive / "aside")
-    with line.changed() as work:
+    with line.changed(is_new=True) as work:
         if line.desk.exists():
             raise NotChanged(f"{line.path} has a desk: restore one of its sealed files")
         there = [path for path in store.paths_below(archive) if store.is_database(path)]

@@ -1,4 +1,4 @@
-"""Keeps the files of a line, which is a folder: its desk, sealed/, lost/ and work/.
+"""Keeps the files of a line, which is a folder: its desk, sealed/ and lost/.
 
 usage: tracedesk-ops make LINE [--from FOLDER]
        tracedesk-ops seal LINE [--port N]
@@ -289,6 +289,7 @@ def main() -> int:
     os.umask(0o077)
     try:
         with plant.as_owner(asked.line.desk):
+            asked.line.want(is_new=asked.subcommand == "make")
             return SUBCOMMANDS[asked.subcommand](asked)
     except FAULTS as fault:
         plant.tell(str(fault) or "it was interrupted")

@@ -1,9 +1,11 @@
 """A line is a folder, and nothing of it lies anywhere else.
 
-    desk        the line's list, which its service alone has open; its log is next to it
-    sealed/     copies of it at a moment, which nobody writes any more: sealed.py
-    lost/       what a restore took off, until a person decides about it
-    work/       unfinished: nothing in it counts, and whoever changes the line next empties it
+    desk                the line's list, which its service alone has open, with its log
+    sealed/             copies of it at a moment, which nobody writes any more: sealed.py
+    lost/               what a restore took off, until a person decides about it
+    .tracedesk-work/    unfinished: nothing in it counts, and the next change removes it
+
+A folder is a line's if it has a desk or sealed/. No other one is changed, but by who makes a line.
 
     LineFolder(pathlib.Path("/var/lib/tracedesk/L1")).desk
 """
@@ -17,6 +19,8 @@ import pathlib
 import shutil
 from collections.abc import Iterator
 
+WORK = ".tracedesk-work"  # it is removed with all in it, so nobody else has this name
+
 
 class Busy(Exception):
     """Another tool has the line's folder."""
@@ -26,12 +30,12 @@ class Busy(Exception):
 
 
 class NotALine(Exception):
-    """A folder that is no line's, with a work/ that somebody else made."""
+    """A folder that is no line's."""
 
     def __init__(self, path: pathlib.Path) -> None:
         super().__init__(
-            f"{path} is no line's folder: it has a work/ and no sealed/, and that work/ would be"
-            " emptied. Name the folder of a line"
+            f"{path} is no line's folder: it has no desk and no sealed/. Name the folder of a line,"
+            " or let tracedesk-ops make a line in an empty one"
         )
 
 
@@ -59,11 +63,17 @@ class LineFolder:
 
     @property
     def work(self) -> pathlib.Path:
-        return self.path / "work"
+        return self.path / WORK
+
+    def want(self, is_new: bool = False) -> None:
+        """Looks whether the folder is a line's, or may become one; a NotALine if not."""
+        if not (is_new and self.name or self.sealed.is_dir() or self.desk.is_file()):
+            raise NotALine(self.path)
 
     @contextlib.contextmanager
-    def held(self) -> Iterator[None]:
+    def held(self, is_new: bool = False) -> Iterator[None]:
         """Keeps other tools out of the folder; a Busy if one is in it."""
+        self.want(is_new)
         folder = os.open(self.path, os.O_RDONLY | os.O_DIRECTORY)
         try:
             try:
@@ -75,11 +85,11 @@ class LineFolder:
             os.close(folder)
 
     @contextlib.contextmanager
-    def changed(self) -> Iterator[pathlib.Path]:
-        """Holds the folder, and gives an empty work/. What a call leaves there that is killed, the
-        next one clears.
+    def changed(self, is_new: bool = False) -> Iterator[pathlib.Path]:
+        """Holds the folder, and gives an empty one within it for unfinished work. What a call
+        leaves there that is killed, the next one clears.
         """
-        with self.held():
+        with self.held(is_new):
             self.clear()
             for path in (self.sealed, self.lost, self.work):
                 path.mkdir(mode=0o700, exist_ok=True)

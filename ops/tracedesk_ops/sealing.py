@@ -87,7 +87,7 @@ def copied_stopped(desk: Path, to: Path, audit: Audit) -> None:
 
 
 def put(line: LineFolder, made: Path) -> Sealed:
-    """Gives a file of work/ its name in sealed/, where all of it is on disk before. A file that is
+    """Gives a finished file its name in sealed/, where all of it is on disk before. A file that is
     there has the same content, or was changed: then this mends it.
     """
     made.chmod(0o400)

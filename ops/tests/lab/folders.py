@@ -12,7 +12,7 @@ from tracedesk_ops.line import LineFolder
 
 Path = pathlib.Path
 
-# of the calls of a tool that change a file; what is in work/ by then doesn't count
+# of the calls of a tool that change a file; what is unfinished by then doesn't count
 CALLS = ("mkdir", "rmdir", "unlink", "chmod", "fsync", "replace")
 BEHIND = "SELECT uid, command FROM accepted WHERE number > ? ORDER BY number"
 ACCEPT = """INSERT INTO accepted
