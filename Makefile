@@ -33,10 +33,9 @@ ops-test:      ## all tests of the tools in ops/, also those that take minutes o
 truth-test:    ## recalls of 10,000 simulated shifts, compared with what happened at the machines | half an hour or more | python3-pytest python3-pytest-xdist
 	$(say)
 	@/usr/bin/python3 -m pytest -q -n 4 ops/tests/test_truth.py
-evidence-test: ## kills the tools that keep evidence at each call, and in 3,000 random sequences | hours
+evidence-test: ## 3,000 random histories of a line's folder, with kills at each call and planted faults | 1 h | python3-hypothesis
 	$(say)
-	@ops/tests/evidence-faults --points 0 --moments 3
-	@ops/tests/evidence-faults --points 3000 random
+	@/usr/bin/python3 -m pytest -q ops/tests/test_histories.py
 wrong-bodies:  ## tries all wrong bodies, those outside the tests too, and the wrong programs: each has to be refused | 1 h, and up to 40 min for each of the programs | rt
 	$(say)
 	@dev/wrong-bodies

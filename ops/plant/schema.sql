@@ -1,5 +1,5 @@
 -- The tables of a plant: what the files of its lines say for good, each row with the file that said it.
--- A file is an archive, which never changes, or the running desk of a line as of its last copy.
+-- A file is an archive, which never changes, or the running desk of a line as it was sealed last.
 SET client_min_messages = warning;  -- not what is there already
 CREATE SCHEMA IF NOT EXISTS plant;
 SET search_path TO plant;
@@ -9,22 +9,20 @@ CREATE SEQUENCE IF NOT EXISTS file_id AS integer;
 CREATE TABLE IF NOT EXISTS file (
     id           integer PRIMARY KEY,
     line         text NOT NULL,
-    name         text NOT NULL,                 -- that of the catalogue, or 'running desk'
+    name         text NOT NULL,                 -- that of the sealed file, or 'running desk'
     sha256       text NOT NULL,
     first_minute bigint,                        -- none of a desk without a command
     last_minute  bigint,
     commands     bigint NOT NULL,
     last_uid     text NOT NULL,                 -- of the last command, by which a later copy of the same desk is known
     pieces       bigint NOT NULL,
-    taken        text NOT NULL,                 -- when the copy of a running desk was made; empty of an archive
+    taken        text NOT NULL,                 -- when a running desk was sealed; empty of an archive
     dropped      boolean NOT NULL DEFAULT false, -- its pieces were taken out, by drop.sql
-    epochs       text[] NOT NULL DEFAULT '{}',  -- of a running desk, one for each restore, the newest last
     said         bigint NOT NULL DEFAULT 0,     -- commands in the table command
-    desk         text NOT NULL DEFAULT '',      -- the desk's name; empty where it had none yet
     mark         text NOT NULL DEFAULT '',      -- the first digits of the checksum of the archive from which it was begun
     UNIQUE (line, name)
 );
-ALTER TABLE file ADD COLUMN IF NOT EXISTS mark text NOT NULL DEFAULT '';
+ALTER TABLE file ADD COLUMN IF NOT EXISTS mark text NOT NULL DEFAULT '', DROP COLUMN IF EXISTS epochs, DROP COLUMN IF EXISTS desk;  -- of 1.0.0
 CREATE INDEX IF NOT EXISTS file_digits ON file (left(sha256, 24));
 -- each accepted command but a ClockSet, by the MD5 of all that its sender said: two files of a line that have one which places pieces would count them twice
 CREATE TABLE IF NOT EXISTS command (

@@ -128,7 +128,7 @@ def test_a_computer_may_be_named_by_words(plant: Plant) -> None:
     assert boards(plant.recall("lot", "L-3", *words).expect()) == ["SN-L1", "SN-L2"]
     plant.ssh()
     lines = plant.room / "lines.csv"
-    lines.write_text("line,url,catalogue\nL1,ssh:one,-\nL2,ssh:two,-\n")
+    lines.write_text("line,url,folder\nL1,ssh:one,-\nL2,ssh:two,-\n")
     assert boards(plant.recall("lot", "L-3", "--lines", lines).expect()) == ["SN-L1", "SN-L2"]
     for bad in ("ssh:", "ssh:-oProxyCommand=x", "ssh:two three"):
         plant.recall("lot", "L-3", "--line", "L2", bad, "-").expect(2, "names no computer")

@@ -16,7 +16,6 @@ from lab.desk import rows_of_archive
 from lab.plants import WorkedLine
 from lab.recalls import BOARD_TRACE, KINDS, TRACE, Asking, Rows
 from tracedesk_dev import postgres, shift
-from tracedesk_ops import backups
 
 pytestmark = [pytest.mark.xdist_group("three_ways")]
 
@@ -75,7 +74,7 @@ def asking(lines: list[WorkedLine], room: pathlib.Path) -> Asking:
 def whole(lines: list[WorkedLine], server: postgres.Server) -> Database:
     """The database of one plant with both lines."""
     made = databases.create(server, "whole")
-    made.load(lines[0].catalogue, *(line.copies for line in lines))
+    made.load(*(line.kept()[-1] for line in lines))
     return made
 
 
@@ -85,7 +84,7 @@ def company(lines: list[WorkedLine], server: postgres.Server) -> Database:
     options = []
     for number, line in enumerate(lines):
         its = databases.create(server, f"plant_{line.name.lower()}")
-        its.load(line.copies)
+        its.load(line.kept()[-1])
         its.change(f"INSERT INTO own_name VALUES ('plant-{line.name}')")
         options.append(f"p{number} 'host={server.folder} dbname={its.name} user=plant'")
     made = databases.create(server, "company", "company")
@@ -220,10 +219,10 @@ def test_files_without_the_name_are_not_read(whole: Database, kind: str, table: 
 def test_what_is_loaded_again_changes_nothing(lines: list[WorkedLine], again: Database) -> None:
     """Nor does an older copy."""
     before = plants.state(again)
-    said = again.load(lines[0].catalogue, *(line.copies for line in lines))
+    said = again.load(*(line.kept()[-1] for line in lines))
     assert "pieces" not in said
     files = sum(len(line.named_files()) for line in lines)
-    assert said.count("loaded before") == files + len(lines[0].archived)
+    assert said.count("loaded before") == files
     older = again.load(lines[0].kept()[-2])
     assert "running desk: loaded before: all of its commands are in the archive " in older
     assert plants.state(again) == before
@@ -237,7 +236,7 @@ def test_copies_in_their_order_make_the_same_tables(
     with contextlib.ExitStack() as kept:
         kept.callback(whole.psql, "-c", f"DROP DATABASE {made.name}")
         for line in lines:
-            for copy in backups.kept_in(line.copies):
-                made.load("--line", line.name, copy)
+            for copy in line.kept():
+                made.load(copy)
         assert plants.parts(made) == 6
         assert plants.pieces(made) == plants.pieces(whole)

@@ -41,7 +41,7 @@ class Line(Protocol):
         ...
 
     @property
-    def catalogue(self) -> pathlib.Path:
+    def folder(self) -> pathlib.Path:
         ...
 
 
@@ -86,7 +86,7 @@ def at(
     line: Line, archive: catalogue.Archive, question: Question, wants_pieces: bool = True
 ) -> Told:
     """Whether an archive of a line knows the name, and its pieces."""
-    with catalogue.unchanged(line.catalogue, archive) as database:
+    with catalogue.unchanged(line.folder, archive) as database:
         return told_by(database, line, archive, question, wants_pieces)
 
 

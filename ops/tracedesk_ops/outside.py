@@ -11,7 +11,7 @@ import subprocess
 from collections.abc import Iterator
 from typing import Any, NamedTuple
 
-from tracedesk_ops import copies, store
+from tracedesk_ops import copies
 
 HEAD = 100  # bytes of a database's head
 SMALLEST = 512  # bytes of a page
@@ -160,7 +160,7 @@ def outside(file: str) -> Iterator[Finding]:
 
 def no_database(file: str) -> Finding | None:
     """Why a file can't be a database, or none."""
-    size, log = os.stat(file).st_size, store.log_of(pathlib.Path(file))
+    size, log = os.stat(file).st_size, copies.log_of(pathlib.Path(file))
     with open(file, "rb") as it:
         head = it.read(HEAD)
     if not size and log:

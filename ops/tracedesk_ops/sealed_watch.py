@@ -35,7 +35,7 @@ def archives(folder: Path, has: Callable[[str], bool]) -> Samples:
     UniqueID.
     """
     paths = {path.stem: path for path in sealed.paths_in(folder)}
-    begun = {begun_in(path) for path in paths.values()} - {""}
+    begun = {sealed.begun_in(path) for path in paths.values()} - {""}
     begun |= {digits for digits in paths if digits not in begun and has(model.first_uid(digits))}
     if has(model.BEGUN) and not any(has(model.first_uid(digits)) for digits in begun):
         raise plant.Fault(f"{folder} lacks the file from which the running desk was begun")
@@ -47,11 +47,6 @@ def archives(folder: Path, has: Callable[[str], bool]) -> Samples:
         yield "rollover_timestamp_seconds", 60 * last, {}
     yield "archive_commands", sum(map(commands_in, those)), {}
     yield "archive_pieces", sum(number_in(path, PIECES) for path in those), {}
-
-
-def begun_in(path: Path) -> str:
-    with sealed.opened(path) as database:
-        return sealed.begun_from(database)
 
 
 def commands_in(path: Path) -> int:

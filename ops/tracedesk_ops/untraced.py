@@ -4,7 +4,7 @@ loads, splices and unloads have records too, but nobody has to decide about them
 which pieces they make doubtful (doubtful.py).
 
 Senders put records into the line's inbox (places.py). `collect` appends each of them to
-`untraced.csv`, beside the catalogue, once:
+`untraced.csv`, next to the sealed files, once:
 
     id,kind,at,machine,board,what,refusal,place,source,by,of,became,reason,record,chain
 
@@ -94,7 +94,7 @@ def has_texts(told: Any, kind: str, *names: str) -> bool:
 
 
 def inbox_of(archive: pathlib.Path) -> pathlib.Path:
-    """The inbox of the line whose archives, and catalogue, are in that folder."""
+    """The inbox of the line whose sealed files are in that folder."""
     return places.of_archive(pathlib.Path(archive)).inbox
 
 

@@ -1,23 +1,21 @@
-"""Recalls lots, a board or reels over the running desks of lines and all archives of their
-catalogues.
+"""Recalls lots, a board or reels over the running desks of lines and all sealed files behind them.
 
 usage: tracedesk-recall lot NAME.. [--part PART] [OPTION]..
        tracedesk-recall board NAME [OPTION]..
        tracedesk-recall reel NAME.. [OPTION]..
        tracedesk-recall where ATTRIBUTE=VALUE.. [OPTION]..
-options:                [--line LINE URL CATALOGUE].. [--lines FILE]
+options:                [--line LINE URL FOLDER].. [--lines FILE]
                         [--show TABLE] [--shipped FILE] [--customer NAME] [--html FILE] [--evidence
                         FOLDER] [--key FILE | --unsigned] [--cacert FILE] [--netrc FILE]
-                        [--archives-only]
 
 examples:
   tracedesk-recall lot L-77            of the lines that are set up on this machine, by
                                        /etc/tracedesk/LINE.conf
   tracedesk-recall lot L-77 L-78 --part CAP-100N
   tracedesk-recall where date_code=2614 part=CAP-100N
-  tracedesk-recall lot L-77 --line L1 http://127.0.0.1:8080 /var/lib/tracedesk/archive/catalogue.csv
+  tracedesk-recall lot L-77 --line L1 http://127.0.0.1:8080 /var/lib/tracedesk/L1
   tracedesk-recall lot L-77 --lines lines.csv --shipped shipped.csv --evidence L-77 > boards.csv
-  tracedesk-recall board SN-117 --archives-only --line L1 - archive/catalogue.csv      no desk runs
+  tracedesk-recall board SN-117 --line L1 - /mirror/L1      a mirror, without what came since
   tracedesk-recall reel K-01 --lines lines.csv --show reels
   tracedesk-recall lot L-77 --line L1 ssh:line-1 - --line L2 ssh:line-2 -              two lines on
                                                                                        computers of
@@ -36,13 +34,12 @@ supplier, maker_part or order, as tracedesk-reels keeps them. If it is named twi
 of the values. A reel whose attributes nobody gave may be one of them: it is named, and the status
 is 3.
 
---line          a line's name, the URL of its running desk (`-` where none runs), and the path of
-                its catalogue: where the line was never rolled over, the path that it will have
+--line          a line's name, the URL of its running desk, and the line's folder. With `-` for a
+                URL the newest sealed file stands for the desk, and the answer is not complete.
                 A line on another computer has the URL ssh:HOST or ssh:USER@HOST, here or in its
-                set-up file, and the catalogue `-`:
-                tracedesk-recall is run there for all lines of that computer, and each answer has to
-                be complete
---lines FILE    the same of several lines: a CSV file of the header line,url,catalogue; paths are
+                set-up file, and the folder `-`: tracedesk-recall is run there for all lines of that
+                computer, and each answer has to be complete
+--lines FILE    the same of several lines: a CSV file of the header line,url,folder; paths are
                 from its folder on. A fourth column, machines, may name a line's machines, with `;`
                 between them: their slots are looked at
 --show TABLE    the table to print as CSV; without it pieces of a board, and boards of a lot or reel
@@ -61,8 +58,8 @@ is 3.
                  also those that hold no
                 piece, and nothing of other boards; a serial that no line knows makes it incomplete
 --html FILE     one page to print, with all of it
---evidence FOLDER  all of it as CSV and HTML, the desks' answers, the catalogues, a certificate,
-                   checksums and a signature:
+--evidence FOLDER  all of it as CSV and HTML, the desks' answers, a certificate, checksums and a
+                   signature:
                 tracedesk-verify verifies it. With `-` it goes to standard output as a tar, in place
                 of the table, for the lines of this computer alone: so another one asks. Its
                 evidence has that tar
@@ -73,11 +70,9 @@ is 3.
 --unsigned      the evidence is not signed, and its certificate says so
 --cacert FILE   the certificate of an https URL, or of its signer
 --netrc FILE    the users and passwords of the URLs
---archives-only lets a line have no running desk; without it `-` for a URL ends with status 3
 
 FILE of --html and FOLDER must not be there yet. Each gets its name once it is whole. A running desk
-reports no minutes, and lists no reels of a lot: its file has both, if the line's set-up names it,
-or it is next to the folder of its archives.
+reports no minutes, and lists no reels of a lot: its file in the line's folder has both.
 
 Exit status: 0 all were asked; 1 all were asked, and none knows the name; 2 bad command line, or a
 list that can't be read; 3 not all were asked, the archives are no chain, pieces are counted twice,
@@ -150,47 +145,33 @@ def rows_of(
 
 
 def lines_of(words: argparse.Namespace) -> list[Line]:
-    told = [(pathlib.Path(), *it, "", None) for it in words.line]
+    told = [(pathlib.Path(), *it, "") for it in words.line]
     if words.lines:
         told += [
-            (words.lines.parent, *it, None)
-            for it in rows_of(words.lines, ("line", "url", "catalogue"), ("machines",))
+            (words.lines.parent, *it)
+            for it in rows_of(words.lines, ("line", "url", "folder"), ("machines",))
         ]
     if not told:
         told = [
-            (
-                pathlib.Path(),
-                it["line"],
-                it["url"],
-                f"{it['archive']}/{catalogue.FILE_NAME}",
-                "",
-                pathlib.Path(it["db"]),
-            )
+            (pathlib.Path(), it["line"], it["url"], str(pathlib.Path(it["db"]).parent), "")
             for it in options.set_ups()
         ]
         if words.evidence != hosts.PRINTED:  # else another computer asks, for its own answer
-            told += [(pathlib.Path(), it.line, it.url, "-", "", None) for it in places.elsewhere()]
+            told += [(pathlib.Path(), it.line, it.url, "-", "") for it in places.elsewhere()]
     lines: list[Line] = []
     seen: dict[tuple[str, Any], str] = {}
-    for folder, name, url, path, machines, desk in told:
+    for folder, name, url, path, machines in told:
         host = hosts.host_of(url)
         if path in ("", "-") and not host:
-            stop(
-                f"the line {name} has no catalogue: name the path that it has, or will have, as"
-                " archive/catalogue.csv beside the desk's file"
-            )
+            stop(f"the line {name} has no folder: name that of its desk")
         at = pathlib.Path(os.path.abspath(folder / path))  # a link stays one, as in each tool
-        if is_folder(at) and not host:
-            stop(
-                f"{at} is a folder: name the catalogue of the line {name}, as"
-                f" {at}/{catalogue.FILE_NAME}"
-            )
+        if not is_folder(at) and at.exists():
+            stop(f"{at} is a file: name the folder of the line {name}")
         it = Line(
             name,
             "" if url == "-" or host else url,
             at,
             tuple(filter(None, map(str.strip, machines.split(";")))),
-            desk,
             host,
         )
         try:
@@ -200,7 +181,7 @@ def lines_of(words: argparse.Namespace) -> list[Line]:
                 f"the running desk of the line {name} is no URL, as http://127.0.0.1:8080: {url!r}:"
                 f" {fault}"
             )
-        for what in ("name", name), ("running desk", place):
+        for what in ("name", name), ("running desk", place), ("folder", None if host else at):
             if what in seen:
                 stop(
                     f"the lines {seen[what]} and {name} have the same {what[0]}: each is asked once"
@@ -211,7 +192,7 @@ def lines_of(words: argparse.Namespace) -> list[Line]:
             stop("a line has no name")
         lines.append(it)
     return lines or stop(
-        f"no line is named, and none is set up in {places.FOLDER}: --line NAME URL CATALOGUE, or"
+        f"no line is named, and none is set up in {places.FOLDER}: --line NAME URL FOLDER, or"
         " --lines FILE"
     )
 
@@ -284,7 +265,7 @@ def parse() -> argparse.Namespace:
     parser.add_argument("names", nargs="+", type=carry.identifier, help="its names, or attributes")
     parser.add_argument("--part", type=carry.identifier, help="of lots, this part alone")
     parser.add_argument(
-        "--line", nargs=3, action="append", default=[], metavar=("LINE", "URL", "CATALOGUE")
+        "--line", nargs=3, action="append", default=[], metavar=("LINE", "URL", "FOLDER")
     )
     parser.add_argument(
         "--show", choices=("boards", "pieces", "reels", "asked", "untraced", "doubtful")
@@ -299,8 +280,7 @@ def parse() -> argparse.Namespace:
         ("netrc", "FILE"),
     ):
         parser.add_argument(f"--{option}", type=pathlib.Path, metavar=metavar)
-    for option in ("archives-only", "unsigned"):
-        parser.add_argument(f"--{option}", action="store_true")
+    parser.add_argument("--unsigned", action="store_true")
     for option in ("customer", "token"):
         parser.add_argument(f"--{option}", metavar="NAME")
     parser.add_argument(
@@ -391,7 +371,7 @@ def asked(
         its_words = [kind, *([f"--part={words.part}"] if words.part else []), "--", *names]
         there = hosts.Asking(lines, its_words)
         chain = chains.Asker(words.program, its.question.words(listed_in(room, its.question)))
-        recall = Recall(its.question, lines, desk_of, chain, words.archives_only, there.take)
+        recall = Recall(its.question, lines, desk_of, chain, there.take)
         recall.words, recall.token = its_words, words.token or ""
         recall.faults += its.faults
         recall.notes += its.notes

@@ -18,15 +18,14 @@ SECONDS_FOR_A_REPORT = 120  # as the proxy waits; a trace of very many pieces ta
 
 
 class Line(NamedTuple):
-    """A line of the plant; `url` is empty if no desk runs, `machines` are those that somebody
-    named, and `desk` is its file if that is known. A line on another computer has its `host` alone.
+    """A line of the plant and its folder; `url` is empty if no desk runs, and `machines` are those
+    that somebody named. A line on another computer has its `host` alone.
     """
 
     name: str
     url: str
-    catalogue: pathlib.Path
+    folder: pathlib.Path
     machines: tuple[str, ...] = ()
-    desk: pathlib.Path | None = None
     host: str = ""
 
 

@@ -212,13 +212,13 @@ class Asking:
 def put(answer: Answer, names: Sequence[str], recall: Any) -> None:
     """Puts the answer of a computer into a recall, which asks it about these lines."""
     told = answer.told["lines"]
-    lines = {line["line"]: (line["desk"], line["epoch"]) for line in told}
-    for name in sorted(set(names) - lines.keys()):
+    lines = {line["line"] for line in told}
+    for name in sorted(set(names) - lines):
         recall.miss(About(name, answer.host), NoAnswer(f"{answer.host} has no line of this name"))
-    taken = {row.line for row in recall.asked} & lines.keys()
+    taken = {row.line for row in recall.asked} & lines
     for name in sorted(taken):
         recall.doubts.append(f"{name}: it is a line of {answer.host}, and of another computer too")
-    if more := sorted(lines.keys() - set(names)):
+    if more := sorted(lines - set(names)):
         recall.notes.append(f"{answer.host} has the lines {', '.join(more)} too: they were asked")
     recall.elsewhere.append(Elsewhere(answer.host, answer.packed, lines))
     recall.known |= answer.is_known()
