@@ -194,7 +194,7 @@ APART = {"import": "importing", "label": "labels", "events": "events"}
 
 def line_named(name: str) -> LineFolder:
     """The folder of a line: that of its set-up file, or one of its name."""
-    path = Path(name) if "/" in name else places.HOME / name
+    path = Path(name) if "/" in name else places.HOME / options.line_name(name)
     try:
         for its in places.lines():
             if its.line == name:
