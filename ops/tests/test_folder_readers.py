@@ -9,6 +9,7 @@ import time
 import pytest
 
 from lab import files
+from lab.desk import rows_of
 from lab.folders import audit, line_of, rolled_over, seal
 from tracedesk_ops import around, change, model, plant, sealed, sealed_watch
 from tracedesk_ops.line import LineFolder
@@ -82,7 +83,33 @@ def test_a_desk_that_was_set_back_lacks_what_was_sealed(line: LineFolder) -> Non
     assert any("1 commands of S are in" in fault for fault in survey(line).faults[1:])
 
 
+def test_desks_that_changed_places_are_named(folder: Path) -> None:
+    """Each has the same first message, as one that was sent to both lines."""
+    both = [line_of(folder / name, "to both", f"of {name}") for name in ("L1", "L2")]
+    for line in both:
+        seal(line)
+    first, second = (line.desk for line in both)
+    first.rename(folder / "between")
+    second.rename(first)
+    (folder / "between").rename(second)
+    for line in both:
+        assert any("1 commands of S are in" in fault for fault in survey(line).faults)
+
+
 # --- The watch
+
+
+def has_all(_: str) -> bool:
+    return True
+
+
+def test_a_newer_file_of_another_desk_says_nothing_of_the_age(line: LineFolder) -> None:
+    """As one of a trial restore on another machine, or of another line."""
+    ours = [uid for (uid,) in rows_of(line.desk, "SELECT uid FROM accepted")]
+    other = line_of(line.path.with_name("L2"), *ours[:1], "x")
+    shutil.copy(seal(other).path, line.sealed)
+    with pytest.raises(plant.Fault, match="isn't the running desk's"):
+        [*sealed_watch.newest(line.sealed, ours.__contains__)]
 
 
 def test_the_watch_knows_the_newest_seal_and_the_archives(line: LineFolder) -> None:
@@ -91,7 +118,7 @@ def test_the_watch_knows_the_newest_seal_and_the_archives(line: LineFolder) -> N
         os.utime(path, (1_000_000, 1_000_000))
     before = time.time()
     newest = seal(line, "e")
-    samples = {name: value for name, value, _ in sealed_watch.newest(line.sealed)}
+    samples = {name: value for name, value, _ in sealed_watch.newest(line.sealed, has_all)}
     assert before - 1 <= samples["backup_timestamp_seconds"] <= time.time()
     assert samples["backup_commands"] == newest.commands and samples["backup_pieces"] == 0
     samples = {
@@ -101,7 +128,7 @@ def test_the_watch_knows_the_newest_seal_and_the_archives(line: LineFolder) -> N
     assert samples["rollover_timestamp_seconds"] == 60 * archive.last_minute
     os.utime(newest.path, (time.time() + 3600,) * 2)
     with pytest.raises(plant.Fault, match="in the future"):
-        [*sealed_watch.newest(line.sealed)]
+        [*sealed_watch.newest(line.sealed, has_all)]
 
 
 def test_the_watch_knows_an_archive_that_only_the_running_desk_names(line: LineFolder) -> None:

@@ -2,7 +2,7 @@
 from __future__ import annotations
 
 import pathlib
-from collections.abc import Callable
+from collections.abc import Callable, Iterator
 
 import pytest
 
@@ -12,8 +12,8 @@ SetUp = Callable[..., None]
 
 
 @pytest.fixture
-def set_up(tmp_path: pathlib.Path, monkeypatch: pytest.MonkeyPatch) -> SetUp:
-    """Writes a set-up file of these words."""
+def set_up(tmp_path: pathlib.Path, monkeypatch: pytest.MonkeyPatch) -> Iterator[SetUp]:
+    """Writes a set-up file of these words, which no later test finds."""
     monkeypatch.setattr(places, "FOLDER", tmp_path)
     places.files.cache_clear()
 
@@ -21,7 +21,8 @@ def set_up(tmp_path: pathlib.Path, monkeypatch: pytest.MonkeyPatch) -> SetUp:
         text = "".join(f"{word} = {value}\n" for word, value in words.items())
         (tmp_path / f"{name}.conf").write_text(text, encoding="utf-8")
 
-    return write
+    yield write
+    places.files.cache_clear()
 
 
 def test_a_line_alone_has_the_places_of_the_package(set_up: SetUp) -> None:
@@ -61,7 +62,7 @@ def test_a_line_that_is_a_folder_has_its_places_there(
 def test_a_link_to_the_folder_is_the_folder(set_up: SetUp, tmp_path: pathlib.Path) -> None:
     (tmp_path / "L1/sealed").mkdir(parents=True)
     (tmp_path / "link").symlink_to(tmp_path / "L1")
-    set_up("L1", line="L1", db=tmp_path / "L1/desk")
+    set_up("L1", line="L1", db=tmp_path / "L1/desk", port=8081)
     its = places.of_archive(tmp_path / "link/sealed")
     assert its.line == "L1" and untraced.inbox_of(its.archive) == tmp_path / "L1/untraced"
 
@@ -97,6 +98,13 @@ def test_two_lines_have_two_desks(set_up: SetUp) -> None:
 def test_two_lines_have_two_ports(set_up: SetUp) -> None:
     """Else what is told one of them would be told the other."""
     set_up("L1", line="L1")
-    set_up("L2", line="L2", db="/srv/desk")
+    set_up("L2", line="L2", db="/srv/desk", port=8080)
     with pytest.raises(places.NotSetUp, match="have port = 8080"):
+        places.lines()
+
+
+def test_the_port_of_the_packages_desk_is_no_other_lines(set_up: SetUp) -> None:
+    """That desk may have no set-up file."""
+    set_up("L2", line="L2", db="/srv/desk")
+    with pytest.raises(places.NotSetUp, match="L2 names no port"):
         places.lines()

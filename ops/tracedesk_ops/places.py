@@ -89,11 +89,18 @@ def desk_of(line: str) -> Path:
 
 def lines() -> list[Places]:
     """The lines that are set up on this machine; a NotSetUp if a file is wrong, or two name one
-    desk or one port.
+    desk or one port. Port 8080 is that of the package's own desk.
     """
-    found = [of_words(words) for words in files() if not is_elsewhere(words)]
+    own = [words for words in files() if not is_elsewhere(words)]
+    found = [of_words(words) for words in own]
     want_no_two("db", [str(its.db) for its in found])
     want_no_two("port", [str(its.port) for its in found])
+    for its in (its for its, words in zip(found, own) if "port" not in words):
+        if its.db != DESK:
+            raise NotSetUp(
+                f"{FOLDER}: {its.line} names no port, and {PORT} is that of {DESK}: write port = N"
+                " into its file"
+            )
     return found
 
 

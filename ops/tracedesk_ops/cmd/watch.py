@@ -264,7 +264,8 @@ class Watch:
         """The newest sealed file; one of the future is none to trust."""
         if is_there(self.sealed):
             with within(SECONDS_FOR_A_FILE):
-                yield from sealed_watch.newest(self.sealed)
+                has = self.desk.has if self.is_up else lambda _: True
+                yield from sealed_watch.newest(self.sealed, has)
 
     def archive(self) -> Samples:
         has = self.desk.has if self.is_up else lambda _: False
