@@ -103,7 +103,7 @@ CREATE TABLE IF NOT EXISTS looked (
     line text PRIMARY KEY,
     at   text NOT NULL                          -- a checksum of all of them
 );
--- a row for each change of the tables by a tool: a company knows by it whether a plant went back to an older state
+-- a row for each change of the tables by a tool: who asks knows by it whether the database went back to an older state
 CREATE TABLE IF NOT EXISTS state (
     token  uuid PRIMARY KEY DEFAULT gen_random_uuid(),
     number bigint GENERATED ALWAYS AS IDENTITY
@@ -203,33 +203,5 @@ CREATE OR REPLACE FUNCTION faults(kind text, wanted text) RETURNS SETOF text LAN
             OR kind = 'lot' AND '' = ANY (other_lots) AND why LIKE 'the machine names another reel%'
             OR parts = '{}' AND EXISTS (SELECT FROM refused WHERE refused.line = doubt.line AND refused.machine = doubt.machine AND (kind = 'lot' OR refused.reel = wanted)) END
 $$;
-
--- What a company asks of a plant, in one snapshot: each piece, and what keeps the answer from being exact. The last row has neither: it
--- says that the plant answered, whether it knows the name, when the running desk was copied whose copy is the oldest, which state the
--- tables have, and whether they had one of the states that the company saw.
-CREATE TABLE IF NOT EXISTS own_name (name text PRIMARY KEY);  -- of the plant, by which a company knows it: one row
-CREATE OR REPLACE FUNCTION answer(kind text, wanted text, schema_wanted integer, seen uuid[])
-RETURNS TABLE (plant text, fault text, known boolean, copied timestamptz, state uuid, went_on boolean, board text, designator text, part text, lot text, reel text, machine text,
-               slot text, overdue text, minute bigint, line text, file text, as_of bigint)
-LANGUAGE plpgsql STABLE SECURITY DEFINER SET search_path = plant, pg_temp AS $$
-#variable_conflict use_column
-DECLARE
-    own text := (SELECT CASE count(*) WHEN 1 THEN max(name) END FROM own_name);
-BEGIN
-    IF own IS NULL THEN
-        RAISE EXCEPTION 'the plant has no name: INSERT INTO plant.own_name VALUES (..)';
-    ELSIF schema_wanted <> 1 THEN
-        RAISE EXCEPTION 'the plant % has the schema 1, and % is asked for: run the same schema.sql and company.sql everywhere', own, schema_wanted;
-    END IF;
-    plant := own;
-    FOR board, designator, part, lot, reel, machine, slot, overdue, minute, line, file, as_of IN
-        SELECT p.board, p.designator, p.part, p.lot, p.reel, p.machine, p.slot, p.overdue, p.minute, p.line, p.file, p.as_of FROM pieces_of(kind, wanted) p LOOP
-        RETURN NEXT;
-    END LOOP;
-    RETURN QUERY SELECT own, f, NULL::boolean, NULL::timestamptz, NULL::uuid, NULL::boolean, NULL, NULL, NULL, NULL, NULL, NULL, NULL, NULL, NULL::bigint, NULL, NULL, NULL::bigint FROM faults(kind, wanted) f;
-    RETURN QUERY SELECT own, NULL, knows(kind, wanted), (SELECT min(moment(taken)) FROM file WHERE name = 'running desk'),
-        (SELECT token FROM state ORDER BY number DESC LIMIT 1), EXISTS (SELECT FROM state WHERE token = ANY (seen)),
-        NULL, NULL, NULL, NULL, NULL, NULL, NULL, NULL, NULL::bigint, NULL, NULL, NULL::bigint;
-END $$;
-REVOKE EXECUTE ON FUNCTION answer FROM PUBLIC;  -- a role that may only ask gets this one, and no table
+DROP FUNCTION IF EXISTS answer(text, text, integer, uuid[]);  -- of 1.0.0
 RESET client_min_messages;

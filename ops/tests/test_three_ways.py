@@ -1,7 +1,6 @@
 """Two lines that work on some of the same boards, asked three ways, which print the same rows.
 
-The ways are the program's report on each file, tracedesk-recall, and PostgreSQL; and a company of
-which each line is a plant prints them too.
+The ways are the program's report on each file, tracedesk-recall, and PostgreSQL.
 """
 import contextlib
 import pathlib
@@ -26,9 +25,6 @@ READ = """BEGIN; SELECT FROM plant.pieces_of('{}', '{}');
     SELECT DISTINCT relname FROM pg_locks JOIN pg_class ON oid = relation
     WHERE pid = pg_backend_pid() AND relname ~ '^placement_\\d+$' ORDER BY 1; COMMIT"""
 HOLD = "SELECT DISTINCT format('placement_%s', file) FROM {} WHERE {} = '{}' ORDER BY 1"
-PLANTS = """INSERT INTO company.plant VALUES ('plant-L1', '100 years'), ('plant-L2', '100 years');
-    CREATE SERVER plants FOREIGN DATA WRAPPER plproxy OPTIONS ({}, modular_mapping '1');
-    CREATE USER MAPPING FOR PUBLIC SERVER plants"""
 
 
 @pytest.fixture(scope="module")
@@ -59,7 +55,7 @@ def lines(program: pathlib.Path, room: pathlib.Path) -> Iterator[list[WorkedLine
 
 @pytest.fixture(scope="module")
 def server() -> Iterator[postgres.Server]:
-    databases.skip_without("plproxy")
+    databases.skip_without()
     with databases.server() as made:
         yield made
 
@@ -75,20 +71,6 @@ def whole(lines: list[WorkedLine], server: postgres.Server) -> Database:
     """The database of one plant with both lines."""
     made = databases.create(server, "whole")
     made.load(*(line.kept()[-1] for line in lines))
-    return made
-
-
-@pytest.fixture(scope="module")
-def company(lines: list[WorkedLine], server: postgres.Server) -> Database:
-    """A company over the database of each line's own plant."""
-    options = []
-    for number, line in enumerate(lines):
-        its = databases.create(server, f"plant_{line.name.lower()}")
-        its.load(line.kept()[-1])
-        its.change(f"INSERT INTO own_name VALUES ('plant-{line.name}')")
-        options.append(f"p{number} 'host={server.folder} dbname={its.name} user=plant'")
-    made = databases.create(server, "company", "company")
-    made.psql("-c", PLANTS.format(", ".join(options)))
     return made
 
 
@@ -121,10 +103,6 @@ def expect_same(asking: Asking, database: Database, kind: str, name: str) -> Row
     return by_plant
 
 
-def by_items(rows: Rows) -> list[list[tuple[str, str]]]:
-    return sorted(sorted(row.items()) for row in rows)
-
-
 def two(asking: Asking, of: Callable[[str, str], str]) -> str:
     """A board that lies in two of something, by the line and the file of its pieces."""
     found: dict[str, set[str]] = {}
@@ -154,16 +132,12 @@ def lot(whole: Database) -> str:
 
 @pytest.mark.parametrize("some", SOME)
 @pytest.mark.parametrize("kind", KINDS)
-def test_reports_a_recall_and_databases_print_the_same(
-    asking: Asking, whole: Database, company: Database, lot: str, kind: str, some: int
+def test_reports_a_recall_and_the_database_print_the_same(
+    asking: Asking, whole: Database, lot: str, kind: str, some: int
 ) -> None:
     found = 0
     for name in chosen(asking, kind, some, lot):
-        planted = expect_same(asking, whole, kind, name)
-        told = company.query("company-recall", pieces=1, **{kind: name}).rows
-        wanted = [{**row, "plant": f"plant-{row['line']}"} for row in planted]
-        assert by_items(told) == by_items(wanted), f"{kind} {name}"
-        found += len(planted)
+        found += len(expect_same(asking, whole, kind, name))
     assert found
 
 

@@ -4,8 +4,7 @@
     port = 8081
 
 A line is the folder of its desk, and all of its places are in it: /var/lib/tracedesk/LINE, or
-/var/lib/tracedesk itself for the package's own service, or that of the desk that `db` names. A line
-on another machine has a file of two words: line = L2 and url = ssh:HOST.
+/var/lib/tracedesk itself for the package's own service, or that of the desk that `db` names.
 """
 from __future__ import annotations
 
@@ -26,7 +25,6 @@ HOME = Path("/var/lib/tracedesk")
 DESK, PORT = HOME / "desk", 8080
 WORDS = "line db port url stop start key".split()
 PATHS = ("db", "key")
-BY_SSH = "ssh:"  # how the URL of a line on another machine begins
 SECTION = "line"  # configparser wants one, and set-up files have none
 
 
@@ -91,22 +89,16 @@ def lines() -> list[Places]:
     """The lines that are set up on this machine; a NotSetUp if a file is wrong, or two name one
     desk or one port. Port 8080 is that of the package's own desk.
     """
-    own = [words for words in files() if not is_elsewhere(words)]
-    found = [of_words(words) for words in own]
+    found = [of_words(words) for words in files()]
     want_no_two("db", [str(its.db) for its in found])
     want_no_two("port", [str(its.port) for its in found])
-    for its in (its for its, words in zip(found, own) if "port" not in words):
-        if its.db != DESK:
+    for its, words in zip(found, files()):
+        if "port" not in words and its.db != DESK:
             raise NotSetUp(
                 f"{FOLDER}: {its.line} names no port, and {PORT} is that of {DESK}: write port = N"
                 " into its file"
             )
     return found
-
-
-def elsewhere() -> list[Places]:
-    """The lines that are set up as those of other machines: only their names and URLs count."""
-    return [of_words(words) for words in files() if is_elsewhere(words)]
 
 
 @functools.cache
@@ -126,10 +118,6 @@ def want_no_two(name: str, values: list[str]) -> None:
             f"two files of {FOLDER} have {name} = {', '.join(twice)}: take one of them away, "
             "or name another place in it"
         )
-
-
-def is_elsewhere(words: dict[str, str]) -> bool:
-    return words.get("url", "").startswith(BY_SSH)
 
 
 def words_in(path: Path) -> dict[str, str]:
@@ -156,11 +144,6 @@ def words_in(path: Path) -> dict[str, str]:
         )
     if "line" not in words:
         raise NotSetUp(f"{path} names no line: write line = LINE into it, or take it away")
-    if is_elsewhere(words) and (more := [*words.keys() - {"line", "url"}]):
-        raise NotSetUp(
-            f"{path}: {', '.join(sorted(more))} is of a line on this machine, and its URL says that"
-            " it is on another one: take the words away, or the URL"
-        )
     return words
 
 

@@ -17,9 +17,6 @@ examples:
   tracedesk-recall lot L-77 --lines lines.csv --shipped shipped.csv --evidence L-77 > boards.csv
   tracedesk-recall board SN-117 --line L1 - /mirror/L1      a mirror, without what came since
   tracedesk-recall reel K-01 --lines lines.csv --show reels
-  tracedesk-recall lot L-77 --line L1 ssh:line-1 - --line L2 ssh:line-2 -              two lines on
-                                                                                       computers of
-                                                                                       their own
 
 tracedesk-chain reads a line's archives, once the checksum of each is that of its line, and answers
 only if they are a chain. Each file names the archive from which its desk was begun, and the running
@@ -35,10 +32,8 @@ of the values. A reel whose attributes nobody gave may be one of them: it is nam
 is 3.
 
 --line          a line's name, the URL of its running desk, and the line's folder. With `-` for a
-                URL the newest sealed file stands for the desk, and the answer is not complete.
-                A line on another computer has the URL ssh:HOST or ssh:USER@HOST, here or in its
-                set-up file, and the folder `-`: tracedesk-recall is run there for all lines of that
-                computer, and each answer has to be complete
+                URL the newest sealed file stands for the desk, and the answer is not complete. Of
+                a line on another computer name a mirror of its folder
 --lines FILE    the same of several lines: a CSV file of the header line,url,folder; paths are
                 from its folder on. A fourth column, machines, may name a line's machines, with `;`
                 between them: their slots are looked at
@@ -59,12 +54,7 @@ is 3.
                 piece, and nothing of other boards; a serial that no line knows makes it incomplete
 --html FILE     one page to print, with all of it
 --evidence FOLDER  all of it as CSV and HTML, the desks' answers, a certificate, checksums and a
-                   signature:
-                tracedesk-verify verifies it. With `-` it goes to standard output as a tar, in place
-                of the table, for the lines of this computer alone: so another one asks. Its
-                evidence has that tar
---token NAME    the certificate has it, with the words of the question: so another computer knows
-                that the answer is to its own
+                   signature: tracedesk-verify verifies it
 --key FILE      the private key that signs the evidence, as ssh-keygen makes it; without it the
                 `key` of the line's set-up file
 --unsigned      the evidence is not signed, and its certificate says so
@@ -97,7 +87,7 @@ from typing import Any, NoReturn
 
 from tracedesk.desk import checked_url
 from tracedesk_ops import carry, catalogue, chains, files, options, places, plant, reader_of
-from tracedesk_ops.recalls import customers, hosts, sets, signing
+from tracedesk_ops.recalls import customers, sets, signing
 from tracedesk_ops.recalls.certificate import bytes_of, programs
 from tracedesk_ops.recalls.desk import Desk, Line, Question
 from tracedesk_ops.recalls.evidence import (
@@ -156,23 +146,19 @@ def lines_of(words: argparse.Namespace) -> list[Line]:
             (pathlib.Path(), it["line"], it["url"], str(pathlib.Path(it["db"]).parent), "")
             for it in options.set_ups()
         ]
-        if words.evidence != hosts.PRINTED:  # else another computer asks, for its own answer
-            told += [(pathlib.Path(), it.line, it.url, "-", "") for it in places.elsewhere()]
     lines: list[Line] = []
     seen: dict[tuple[str, Any], str] = {}
     for folder, name, url, path, machines in told:
-        host = hosts.host_of(url)
-        if path in ("", "-") and not host:
+        if path in ("", "-"):
             stop(f"the line {name} has no folder: name that of its desk")
         at = pathlib.Path(os.path.abspath(folder / path))  # a link stays one, as in each tool
         if not is_folder(at) and at.exists():
             stop(f"{at} is a file: name the folder of the line {name}")
         it = Line(
             name,
-            "" if url == "-" or host else url,
+            "" if url == "-" else url,
             at,
             tuple(filter(None, map(str.strip, machines.split(";")))),
-            host,
         )
         try:
             place = place_of(it.url) if it.url else None
@@ -181,7 +167,7 @@ def lines_of(words: argparse.Namespace) -> list[Line]:
                 f"the running desk of the line {name} is no URL, as http://127.0.0.1:8080: {url!r}:"
                 f" {fault}"
             )
-        for what in ("name", name), ("running desk", place), ("folder", None if host else at):
+        for what in ("name", name), ("running desk", place), ("folder", at):
             if what in seen:
                 stop(
                     f"the lines {seen[what]} and {name} have the same {what[0]}: each is asked once"
@@ -281,8 +267,7 @@ def parse() -> argparse.Namespace:
     ):
         parser.add_argument(f"--{option}", type=pathlib.Path, metavar=metavar)
     parser.add_argument("--unsigned", action="store_true")
-    for option in ("customer", "token"):
-        parser.add_argument(f"--{option}", metavar="NAME")
+    parser.add_argument("--customer", metavar="NAME")
     parser.add_argument(
         "--program",
         default=os.environ.get("PROGRAM", "tracedesk"),
@@ -308,9 +293,7 @@ def parse() -> argparse.Namespace:
     if words.key and words.unsigned:
         stop("--key signs the evidence, and --unsigned doesn't: say one of them")
     for path in (words.html, words.evidence):
-        if path not in (None, hosts.PRINTED) and (
-            os.path.lexists(path) or not os.path.isdir(path.absolute().parent)
-        ):
+        if path and (os.path.lexists(path) or not os.path.isdir(path.absolute().parent)):
             stop(
                 (
                     f"{path}: it is there already, and nothing is overwritten"
@@ -356,37 +339,21 @@ def asked(
     lines: list[Line],
     desk_of: Callable[[Line], Desk],
     room: pathlib.Path,
-) -> tuple[Recall, list[sets.Move]]:
-    """The recall of all lines, and the moves of reels that they know. If another computer knows
-    more names of a reel that moved, all are asked again, by all of its names.
-    """
-    here, kind, names = [line for line in lines if not line.host], words.kind, list(words.names)
-    while True:
-        its = sets.question_of(kind, names, words.part or "", here)
-        is_alone = len(here) == len(lines)
-        if is_alone and words.evidence != hosts.PRINTED and not its.question.names():
-            for text in (*(f"NOT ASKED: {why}" for why in its.faults), *its.notes):
-                plant.tell(text)
-            stop(f"no reel is one of {its.question.name}", 3 if its.faults else 1)
-        its_words = [kind, *([f"--part={words.part}"] if words.part else []), "--", *names]
-        there = hosts.Asking(lines, its_words)
-        chain = chains.Asker(words.program, its.question.words(listed_in(room, its.question)))
-        recall = Recall(its.question, lines, desk_of, chain, there.take)
-        recall.words, recall.token = its_words, words.token or ""
-        recall.faults += its.faults
-        recall.notes += its.notes
-        recall.ask()
-        those, more = there.names(its)
-        if kind != "reel" or not more:
-            break
-        names = [*names, *more]
-    recall.faults += [f"the reel {name} has moved: ask for it by this name too" for name in more]
-    known = its.known
-    if known and words.evidence == hosts.PRINTED:
-        recall.notes += known.away(those)
-    elif known:
-        recall.faults += known.away([*those, *more])
-    return recall, list(known.moves()) if known else []
+) -> Recall:
+    """The recall of all lines."""
+    its = sets.question_of(words.kind, words.names, words.part or "", lines)
+    if not its.question.names():
+        for text in (*(f"NOT ASKED: {why}" for why in its.faults), *its.notes):
+            plant.tell(text)
+        stop(f"no reel is one of {its.question.name}", 3 if its.faults else 1)
+    chain = chains.Asker(words.program, its.question.words(listed_in(room, its.question)))
+    recall = Recall(its.question, lines, desk_of, chain)
+    recall.faults += its.faults
+    recall.notes += its.notes
+    recall.ask()
+    if its.known:
+        recall.faults += its.known.away(its.question.names())
+    return recall
 
 
 def answer(words: argparse.Namespace, room: pathlib.Path) -> int:
@@ -403,7 +370,7 @@ def answer(words: argparse.Namespace, room: pathlib.Path) -> int:
     want_secrets_kept(lines, users)
     shipped = shipped_of(words.shipped) if words.shipped else None
     os.nice(NICE)
-    recall, moves = asked(words, lines, lambda line: Desk(line, context, users), room)
+    recall = asked(words, lines, lambda line: Desk(line, context, users), room)
     if not words.line and not words.lines:
         recall.notes.append(
             f"by the files of {places.FOLDER} the lines are {', '.join(it.name for it in lines)}:"
@@ -456,11 +423,6 @@ def answer(words: argparse.Namespace, room: pathlib.Path) -> int:
                 its = customers.contents(recall, own, used, signed_by)
         if words.html:
             write_beside(words.html, bytes_of(paper))
-        if words.evidence == hosts.PRINTED:
-            its[hosts.MOVES] = bytes_of(catalogue.csv_text([hosts.MOVES_HEADER, *moves]))
-            write_evidence(room / "evidence", its, key)
-            hosts.send(room / "evidence")
-            return recall.status()
         if words.evidence:
             write_evidence(words.evidence, its, key)
             if not key:

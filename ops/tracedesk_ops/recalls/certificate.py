@@ -73,7 +73,6 @@ def certificate(
     return {
         "certificate": KIND,
         "question": dict(recall.question.about()),
-        **({"words": recall.words, "token": recall.token} if recall.token else {}),
         "asked_at": f"{recall.minute:%Y-%m-%dT%H:%M:00Z}",
         "answer": {
             "status": status,
@@ -96,8 +95,6 @@ def line_of(recall: Recall, number: int, line: Line) -> dict[str, Any]:
     """What was asked of a line. `chain` is the answer of tracedesk-chain; without it its archives
     were looked at by SQL alone.
     """
-    if line.host:
-        return line_elsewhere(recall, line)
     told: dict[str, Any] = {
         "line": line.name,
         "running_desk": {"url": line.url, "file": f"desk-{number}.txt"} if line.url else None,
@@ -123,28 +120,6 @@ def line_of(recall: Recall, number: int, line: Line) -> dict[str, Any]:
         if asked.line == line.name and asked.sha256
     ]
     return told
-
-
-def line_elsewhere(recall: Recall, line: Line) -> dict[str, Any]:
-    """The same of a line on another computer, whose own evidence is in this file."""
-    file = None
-    for number, its in enumerate(recall.elsewhere, 1):
-        if its.host == line.host and line.name in its.lines:
-            file = evidence_of(number)
-    return {
-        "line": line.name,
-        "running_desk": None,
-        "folder": None,
-        "chain": None,
-        "archives": [],
-        "host": line.host,
-        "evidence": file,
-    }
-
-
-def evidence_of(number: int) -> str:
-    """The file with the evidence of another computer."""
-    return f"host-{number}.tar"
 
 
 def bytes_of(text: str) -> bytes:

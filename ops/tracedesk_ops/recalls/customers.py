@@ -29,7 +29,7 @@ def serials_of(shipped: Shipped, customer: str) -> dict[str, str]:
 def unknown(recall: Recall, serials: Iterable[str]) -> set[str]:
     """The serials that no file and no running desk of the lines knows."""
     left = set(serials)
-    for line in recall.here:
+    for line in recall.lines:
         for archive in recall.own(line) if left else ():
             with contextlib.suppress(OSError, sqlite3.Error):
                 with catalogue.opened(catalogue.path_of(line.folder, archive)) as database:
@@ -99,8 +99,6 @@ def contents(
     for line in told["lines"]:
         line["running_desk"] = bool(line["running_desk"])
         line["folder"] = None
-        for name in line.keys() & {"host", "evidence"}:
-            line[name] = None
         for archive in line["archives"]:
             archive["why"] = wording.readable(archive["why"])
     listed = evidence.listing(recall.question)

@@ -19,14 +19,13 @@ SECONDS_FOR_A_REPORT = 120  # as the proxy waits; a trace of very many pieces ta
 
 class Line(NamedTuple):
     """A line of the plant and its folder; `url` is empty if no desk runs, and `machines` are those
-    that somebody named. A line on another computer has its `host` alone.
+    that somebody named.
     """
 
     name: str
     url: str
     folder: pathlib.Path
     machines: tuple[str, ...] = ()
-    host: str = ""
 
 
 class Question(NamedTuple):

@@ -106,8 +106,6 @@ def evidence(
             answers = recall.desks[line.name].answers
             text = "".join(f"GET {target}\n{answer}\n" for target, answer in answers)
             contents[f"desk-{number}.txt"] = bytes_of(text)
-    for number, host in enumerate(recall.elsewhere, 1):
-        contents[certificate.evidence_of(number)] = host.evidence
     if shipped:
         contents["shipped.csv"] = read_once(shipped)
     return contents

@@ -51,14 +51,6 @@ class Asked(NamedTuple):
     why: str
 
 
-class Elsewhere(NamedTuple):
-    """Another computer that was asked: its evidence, and the names of its lines."""
-
-    host: str
-    evidence: bytes
-    lines: set[str]
-
-
 def line_of(line: Line) -> LineFolder:
     return LineFolder(line.folder)
 
@@ -76,14 +68,8 @@ class Recall:
         lines: list[Line],
         desk_of: Callable[[Line], Desk],
         chain: chains.Asker,
-        take_elsewhere: Callable[[Recall], None] = lambda recall: None,
     ) -> None:
-        self.take_elsewhere = take_elsewhere
-        self.here = [line for line in lines if not line.host]
-        self.elsewhere: list[Elsewhere] = []
         self.question, self.lines, self.desk_of, self.chain = question, lines, desk_of, chain
-        self.words: list[str] = []  # of the question, as another computer gave them
-        self.token = ""  # by which that one knows that this answer is to its question
         self.minute = datetime.datetime.now(datetime.timezone.utc)
         self.known = False
         self.pieces: list[Piece] = []
@@ -102,7 +88,7 @@ class Recall:
 
     def ask(self) -> None:
         with concurrent.futures.ThreadPoolExecutor(os.cpu_count()) as threads:
-            waits = {line: self.begin(line, threads) for line in self.here}
+            waits = {line: self.begin(line, threads) for line in self.lines}
             proofs = {
                 line: threads.submit(
                     self.chain.ask,
@@ -115,17 +101,16 @@ class Recall:
                 and self.question.names()
                 and not any(future.exception() for _, future in its)
             }
-        for line in self.here:
+        for line in self.lines:
             self.running(line, self.archives(line, waits[line], proofs.get(line)))
-        for line in self.here:
+        for line in self.lines:
             if around.stamp(line_of(line)) != self.stamps[line.name]:
                 self.faults.append(
                     f"{line.folder}: its files were changed meanwhile, as by a roll-over or a"
                     " restore: ask again"
                 )
-        for line in self.here:
+        for line in self.lines:
             self.look_for_untraced(line)
-        self.take_elsewhere(self)
         self.pieces.sort(key=lambda it: (it.board, it.line, it.designator))
         self.reels.sort(key=lambda it: (it[:-1], -1 if it.minute is None else it.minute))
         self.doubt()

@@ -59,10 +59,6 @@ def terms_of(words: Iterable[str]) -> Terms:
     return Terms(values)
 
 
-OLD, NEW = "old", "new"  # the side of a move on which a reel has a name
-Move = tuple[str, str, str]  # the beginning of its UniqueIDs, a side, and a reel
-
-
 class Known:
     """What the files of all lines know of reels: `cards` has the parts and lots of each name, `old`
     and `new` the names of each move, `books` the heads that desks have recorded of books, and
@@ -96,15 +92,6 @@ class Known:
                     self.new[found[1]].add(body["Reel"])
                 elif word == "CountsTaken" and found[2]:
                     self.old[found[1]].update(row["Reel"] for row in body["Counts"])
-
-    def moves(self) -> Iterator[Move]:
-        for side, names in ((OLD, self.old), (NEW, self.new)):
-            yield from ((move, side, reel) for move, reels in names.items() for reel in reels)
-
-    def learn(self, moves: Iterable[Move]) -> None:
-        """Adds moves that are known elsewhere."""
-        for move, side, reel in moves:
-            (self.old if side == OLD else self.new)[move].add(reel)
 
     def twice(self, reels: Iterable[str]) -> Iterator[str]:
         """Which of these names are of several receipts: a set of reels is a set of names."""
