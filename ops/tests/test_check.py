@@ -14,6 +14,11 @@ from lab.tools import Word, run
 from tracedesk_ops import outside, plant
 
 RESTORE = "restore the newest sealed file"
+HOLD = """import sqlite3, sys
+desk = sqlite3.connect(sys.argv[1])
+desk.execute("BEGIN EXCLUSIVE")
+print(flush=True)
+sys.stdin.read()"""
 
 
 # --- Lawful and damaged files
@@ -83,6 +88,16 @@ def test_no_file_and_one_without_bytes(checked: Checked) -> None:
     checked.new()
     checked.file.unlink()
     checked.expect("no file: there is no ")
+
+
+def test_another_program_that_has_the_file_open(checked: Checked) -> None:
+    words = [sys.executable, "-c", HOLD, str(checked.file)]
+    with subprocess.Popen(words, stdin=subprocess.PIPE, stdout=subprocess.PIPE) as process:
+        assert process.stdin and process.stdout
+        process.stdout.readline()
+        checked.expect(f"in use: process {process.pid} (", "end it")
+        process.stdin.close()
+    checked.expect()
 
 
 # --- Names

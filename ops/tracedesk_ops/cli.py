@@ -100,8 +100,7 @@ def look(asked: argparse.Namespace) -> int:
     line: LineFolder = asked.line
     with line.held():
         found = lineage.of(line)
-        is_running = os.access(line.desk, os.R_OK, effective_ids=True) and plant.is_open(line.desk)
-        hindrances = [] if is_running else check.hindrances(line.desk, audit_of(asked))
+        hindrances = check.hindrances(line.desk, audit_of(asked))
         faults = [*found.faults, *(its.text() for its in found.lacked)]
         faults += check.chain_faults(asked.program, found)
     if not told([*hindrances, *faults], NO):

@@ -18,7 +18,6 @@ from tracedesk_ops.recalls.desk import Line, Question
 REELS = "SELECT reel, part, lot FROM reel"
 MOVES = "SELECT uid, command FROM accepted WHERE uid >= 'move-' AND uid < 'move.'"
 MOVE = re.compile(r"(move-.+-\d+-\d+?)(-left)?-\d+")
-KNOWN_TO_DESKS = ("reel", "part", "lot")
 MOST_NAMED = 20  # reels in a message
 
 
