@@ -35,10 +35,9 @@ class Young:
         ((self.lot, self.reel, self.machine),) = rows_of_archive(self.line.last, MOUNTED)
         self.table = folder / "lines.csv"
 
-    def recalled(self, show: str, machine: str = "", status: int = 0) -> Rows:
+    def recalled(self, show: str, status: int = 0) -> Rows:
         """What the line's table in a file has of the lot."""
-        row = f"L1,{self.line.url},young,{machine}"
-        self.table.write_text(f"line,url,folder,machines\n{row}\n")
+        self.table.write_text(f"line,url,folder\nL1,{self.line.url},young\n")
         words = ["lot", self.lot, "--lines", self.table, "--show", show]
         done = recall(*words)
         if not self.line.archived:
@@ -64,8 +63,7 @@ def test_a_line_without_archives_has_its_running_desk(young: Young, has_folder: 
     if not has_folder:
         young.line.archive.rmdir()
     assert files_of(young.recalled("pieces")) == {RUNNING}
-    assert files_of(young.recalled("pieces", young.machine)) == {RUNNING}
-    reels = young.recalled("reels", young.machine)
+    reels = young.recalled("reels")
     assert [row["machine"] for row in reels if row["reel"] == young.reel] == [young.machine]
 
 
@@ -88,19 +86,16 @@ def test_a_reel_that_no_archive_names_is_found(young: Young) -> None:
     assert [row["remaining"] for row in reels if row["reel"] == "new"] == ["7"]
 
 
-def test_without_the_desks_file_the_stock_has_to_be_looked_at(
+def test_without_the_desks_file_the_newest_archive_says_what_is_left(
     young: Young, folder: pathlib.Path
 ) -> None:
-    """The file alone has the reels that came in since and are in stock."""
     young.roll_over()
-    reels = recalled("lot", young.lot, *young.line.recall_words(), "--show", "reels")
-    named = {reel for (reel,) in rows_of_archive(young.line.archived[0], "SELECT reel FROM reel")}
     away = shutil.copytree(young.line.archive, folder / "away/sealed").parent
     words = ["lot", young.lot, "--line", "L1", young.line.url, away, "--show", "reels"]
-    recall(*words).expect(3, "look in the stock")
-    wanted = [row for row in reels if row["reel"] in named or row["machine"]]
-    got = recalled(*words, status=3)
-    assert [{**row, "as_of": ""} for row in got] == [{**row, "as_of": ""} for row in wanted]
+    recall(*words).expect(3, "the running desk's file is not at hand")
+    left = "SELECT reel FROM reel WHERE lot = ? AND remaining > 0"
+    wanted = {reel for (reel,) in rows_of_archive(young.line.archived[0], left, young.lot)}
+    assert {row["reel"] for row in recalled(*words, status=3)} == wanted
 
 
 def test_a_folder_that_may_not_be_mounted_is_named(young: Young) -> None:

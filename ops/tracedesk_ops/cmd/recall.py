@@ -35,8 +35,7 @@ is 3.
                 URL the newest sealed file stands for the desk, and the answer is not complete. Of
                 a line on another computer name a mirror of its folder
 --lines FILE    the same of several lines: a CSV file of the header line,url,folder; paths are
-                from its folder on. A fourth column, machines, may name a line's machines, with `;`
-                between them: their slots are looked at
+                from its folder on
 --show TABLE    the table to print as CSV; without it pieces of a board, and boards of a lot or reel
   boards        of each board its pieces, the first and last minute, the lines, overdue, and the
                 files they lie in
@@ -109,9 +108,7 @@ def stop(text: str, status: int = 2) -> NoReturn:
     sys.exit(status)
 
 
-def rows_of(
-    path: pathlib.Path, header: Sequence[str], more: Sequence[str] = ()
-) -> Iterator[list[str]]:
+def rows_of(path: pathlib.Path, header: Sequence[str]) -> Iterator[list[str]]:
     """The rows of a CSV file that has the columns of a header, and may have more; the tool stops
     where it can't be read.
     """
@@ -129,37 +126,31 @@ def rows_of(
                 stop(
                     f"{path}, line {rows.line_num}: it has more or fewer fields than the first line"
                 )
-            yield [row[it].strip() for it in header] + [row.get(it, "").strip() for it in more]
+            yield [row[it].strip() for it in header]
     except (OSError, UnicodeDecodeError, csv.Error) as fault:
         stop(f"{path}: it can't be read: {fault}")
 
 
 def lines_of(words: argparse.Namespace) -> list[Line]:
-    told = [(pathlib.Path(), *it, "") for it in words.line]
+    told = [(pathlib.Path(), *it) for it in words.line]
     if words.lines:
         told += [
-            (words.lines.parent, *it)
-            for it in rows_of(words.lines, ("line", "url", "folder"), ("machines",))
+            (words.lines.parent, *it) for it in rows_of(words.lines, ("line", "url", "folder"))
         ]
     if not told:
         told = [
-            (pathlib.Path(), it["line"], it["url"], str(pathlib.Path(it["db"]).parent), "")
+            (pathlib.Path(), it["line"], it["url"], str(pathlib.Path(it["db"]).parent))
             for it in options.set_ups()
         ]
     lines: list[Line] = []
     seen: dict[tuple[str, Any], str] = {}
-    for folder, name, url, path, machines in told:
+    for folder, name, url, path in told:
         if path in ("", "-"):
             stop(f"the line {name} has no folder: name that of its desk")
         at = pathlib.Path(os.path.abspath(folder / path))  # a link stays one, as in each tool
         if not is_folder(at) and at.exists():
             stop(f"{at} is a file: name the folder of the line {name}")
-        it = Line(
-            name,
-            "" if url == "-" else url,
-            at,
-            tuple(filter(None, map(str.strip, machines.split(";")))),
-        )
+        it = Line(name, "" if url == "-" else url, at)
         try:
             place = place_of(it.url) if it.url else None
         except ValueError as fault:

@@ -232,32 +232,17 @@ class Recall:
         as the newest archive says.
         """
         held: list[Reel] = []
-        machines: set[str] = set()
         try:
             for it in archives[-1:]:
                 with catalogue.opened(catalogue.path_of(line.folder, it)) as database:
-                    held, machines = firstlook.left_in(
-                        database, line, self.question, it.last_minute
-                    )
+                    held = firstlook.left_in(database, line, self.question, it.last_minute)
         except sqlite3.Error as fault:
             self.faults.append(f"{line.name}: {it.file}: {fault}")
-        left = (
-            self.ask_desk(line, archives, {it.reel: it for it in held}, machines)
-            if line.url
-            else None
-        )
+        left = self.ask_desk(line) if line.url else None
         self.reels += held if left is None else left
 
-    def ask_desk(
-        self,
-        line: Line,
-        archives: list[catalogue.Archive],
-        held: dict[str, Reel],
-        machines: set[str],
-    ) -> list[Reel] | None:
-        """Asks a running desk; what is left of the reels, none where it doesn't tell. Its file,
-        where it is at hand, has all of them.
-        """
+    def ask_desk(self, line: Line) -> list[Reel] | None:
+        """Asks a running desk; what is left of the reels by its file, none if that is not at hand."""
         about = About(line.name, RUNNING)
         desk = self.desks.setdefault(line.name, self.desk_of(line))
         newest = next(reversed(self.own(line)), None)
@@ -269,15 +254,16 @@ class Recall:
             return None
         left: list[Reel] | None = None
         try:
-            its = self.by_its_file(line, desk, newest, told)
-            if its:
+            if its := self.by_its_file(line, desk, newest, told):
                 told, left = its
             elif told.known and self.question.kind != "board":
-                left = list(desk.stock(self.question, told, held, machines))
-                self.notes += desk.notes
+                self.faults.append(
+                    f"{line.name}: what is left of it is told as of the newest archive, since the"
+                    " running desk's file is not at hand"
+                )
         except (plant.Fault, catalogue.CatalogueError) as fault:
             self.faults.append(
-                f"{line.name}: what is left of it is told as of the last archive: {fault}"
+                f"{line.name}: what is left of it is told as of the newest archive: {fault}"
             )
         self.take(about, told)
         return left if told.known and self.question.kind != "board" else None
@@ -291,7 +277,7 @@ class Recall:
         file = line_of(line).desk
         with contextlib.suppress(OSError), doubtful.copied(file) as database:
             if not doubtful.why_not(file, database, [newest] if newest else [], desk.has):
-                left = firstlook.left_in(database, line, self.question)[0]
+                left = firstlook.left_in(database, line, self.question)
                 timed = firstlook.with_minutes(database, told.pieces)
                 return Told(told.known or bool(left), timed), left
         return None
