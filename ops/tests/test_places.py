@@ -6,7 +6,7 @@ from collections.abc import Callable, Iterator
 
 import pytest
 
-from tracedesk_ops import places, untraced
+from tracedesk_ops import places
 
 SetUp = Callable[..., None]
 
@@ -31,18 +31,13 @@ def test_a_line_alone_has_the_places_of_the_package(set_up: SetUp) -> None:
     (its,) = places.lines()
     home = pathlib.Path("/var/lib/tracedesk")
     assert its.db == home / "desk" and its.url == "http://127.0.0.1:8080"
-    assert (its.archive, its.inbox, its.status) == (
-        home / "sealed",
-        home / "untraced",
-        home / "status",
-    )
+    assert its.archive == home / "sealed"
 
 
 def test_all_places_are_next_to_the_desk(set_up: SetUp) -> None:
     set_up("L2", line="L2", db="/srv/l2/desk", port=8090)
     (its,) = places.lines()
     assert its.archive == pathlib.Path("/srv/l2/sealed")
-    assert its.inbox == pathlib.Path("/srv/l2/untraced")
     assert its.url == "http://127.0.0.1:8090"
 
 
@@ -56,20 +51,6 @@ def test_a_line_that_is_a_folder_has_its_places_there(
     for its in places.lines():
         folder = tmp_path / "home" / its.line
         assert (its.db, its.archive) == (folder / "desk", folder / "sealed")
-        assert (its.inbox, its.status) == (folder / "untraced", folder / "status")
-
-
-def test_a_link_to_the_folder_is_the_folder(set_up: SetUp, tmp_path: pathlib.Path) -> None:
-    (tmp_path / "L1/sealed").mkdir(parents=True)
-    (tmp_path / "link").symlink_to(tmp_path / "L1")
-    set_up("L1", line="L1", db=tmp_path / "L1/desk", port=8081)
-    its = places.of_archive(tmp_path / "link/sealed")
-    assert its.line == "L1" and untraced.inbox_of(its.archive) == tmp_path / "L1/untraced"
-
-
-def test_a_line_without_a_set_up_file_has_its_places_next_to_the_desk(set_up: SetUp) -> None:
-    assert places.of_desk(pathlib.Path("/srv/x/desk")).status == pathlib.Path("/srv/x/status")
-    assert places.of_archive(pathlib.Path("/srv/x/sealed")).db == pathlib.Path("/srv/x/desk")
 
 
 @pytest.mark.parametrize(

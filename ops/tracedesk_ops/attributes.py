@@ -20,7 +20,7 @@ import pathlib
 from collections.abc import Iterable, Sequence
 from typing import NamedTuple
 
-from tracedesk_ops import carry, catalogue, files, heads, places, plant
+from tracedesk_ops import carry, catalogue, files, heads, model, plant
 
 FILE_NAME, NOTE = "reels.csv", "reels.json"
 ASKED = ("reel", "part", "lot", "date_code", "supplier", "maker_part", "order")
@@ -70,7 +70,7 @@ def chained(before: str, its: Reel, at: str, by: str) -> str:
 
 def note_of(archive: pathlib.Path) -> pathlib.Path:
     """The file that names how many rows a line's book has."""
-    return places.of_archive(archive).inbox / NOTE
+    return archive.with_name(model.INBOX) / NOTE
 
 
 def read(archive: pathlib.Path) -> list[Row]:

@@ -32,7 +32,7 @@ from collections.abc import Callable, Iterator, Sequence
 from typing import NamedTuple, Optional
 
 from tracedesk import records
-from tracedesk_ops import catalogue, copies, files, heads, model, places, plant, sealed, untraced
+from tracedesk_ops import catalogue, copies, files, heads, model, plant, sealed, untraced
 from tracedesk_ops.handling import Piece, minute_of, work_of
 from tracedesk_ops.line import LineFolder
 from tracedesk_ops.story import TAKEN_OFF, Story
@@ -132,7 +132,7 @@ def look(
             *((it, decided[it.id], it.told["DeskReel"]) for it in differing if it.id in decided),
         ],
         pieces,
-        [*book.faults, *faults, *waiting(places.of_archive(archive).status)],
+        [*book.faults, *faults, *waiting(archive.with_name(model.STATUS))],
         notes,
         story,
     )

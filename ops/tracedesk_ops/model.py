@@ -10,6 +10,8 @@ from __future__ import annotations
 
 SOURCE = "tracedesk"
 SEALED = "sealed"  # the folder of a line's sealed files
+INBOX = "untraced"  # next to it: where senders put records of untraced work
+STATUS = "status"  # next to it: what senders and tracedesk-untraced say of themselves
 DIGITS = 24  # of a file's SHA-256: in its name, and in the desk that was begun from it
 # a desk that was begun from a file has it, so that a running one can be asked
 BEGUN = "desk-begun"

@@ -13,7 +13,6 @@ import dataclasses
 import functools
 import os
 import pathlib
-from collections.abc import Iterable
 
 from tracedesk_ops import model
 
@@ -49,19 +48,9 @@ class Places:
         """The sealed files, and the books."""
         return self.db.with_name(model.SEALED)
 
-    @property
-    def inbox(self) -> Path:
-        """Where senders put records of untraced work."""
-        return self.db.with_name("untraced")
-
-    @property
-    def status(self) -> Path:
-        """What senders and tracedesk-untraced say of themselves."""
-        return self.db.with_name("status")
-
     def words(self) -> dict[str, str]:
-        """The words of the set-up file, and the folders."""
-        words = {name: str(getattr(self, name)) for name in (*WORDS, "archive", "status")}
+        """The words of the set-up file, and the folder of sealed files."""
+        words = {name: str(getattr(self, name)) for name in (*WORDS, "archive")}
         return {name: value for name, value in words.items() if value}
 
 
@@ -158,26 +147,6 @@ def is_word(name: str, value: str) -> bool:
 def is_in_a_folder(db: Path) -> bool:
     """Whether a desk has a folder that can be its line's."""
     return db.name == DESK.name and db.parent.name != ""
-
-
-def of_desk(db: Path, those: Iterable[Places] | None = None) -> Places:
-    """The places of the line with this desk: of its set-up file, or next to the desk if it has
-    none.
-    """
-    for its in lines() if those is None else those:
-        if os.path.realpath(its.db) == os.path.realpath(db):
-            return its
-    return of_words({"db": str(db)})
-
-
-def of_archive(archive: Path, those: Iterable[Places] | None = None) -> Places:
-    """The same of the line with this archive. Without a set-up file the desk is next to the
-    archive's folder.
-    """
-    for its in lines() if those is None else those:
-        if os.path.realpath(its.archive) == os.path.realpath(archive):
-            return its
-    return of_words({"db": str(archive.parent / DESK.name)})
 
 
 def all_of(archive: Path) -> list[Places]:

@@ -1,11 +1,10 @@
 """Lists the work that a line's desk refused and did not trace, and keeps each person's decision
 about it.
 
-usage: tracedesk-untraced collect [--every SECONDS] [--line NAME] [--status FOLDER] [--archive
-FOLDER]
+usage: tracedesk-untraced collect [--every SECONDS] [--line NAME] [--archive FOLDER]
        tracedesk-untraced list [--all] [--line NAME] [--archive FOLDER]
-       tracedesk-untraced decide ID --by NAME --became TEXT --reason TEXT [--line NAME] [--status
-       FOLDER] [--archive FOLDER]
+       tracedesk-untraced decide ID --by NAME --became TEXT --reason TEXT [--line NAME] [--archive
+       FOLDER]
 
 examples:
   tracedesk-untraced collect                     once
@@ -20,17 +19,16 @@ Senders put a record of each refused report of work into the folder `untraced` o
 `collect` appends it to untraced.csv, next to the sealed files. A recall names each board that is in
 it, and ends with status 3 until somebody decided what became of the board. Only `scrapped` takes it
 out of recalls: with each other decision it stays doubtful, with status 5. `collect` also takes the
-attributes of reels out of their receipts, into reels.csv. ID may be the beginning of an id, if no
-other has it. A refused load, splice or unload has a record too, and needs no decision. If a recall
-names pieces as doubtful because of it, and nothing was placed from that reel, decide --became
-'taken off'. If a recall says that untraced.csv has not a row, and no copy has it, look for that
-work on paper, then decide lost.
+attributes of reels out of their receipts, into reels.csv, and writes untraced.json into the folder
+`status` of the line, if it is there, for the station. ID may be the beginning of an id, if no other
+has it. A refused load, splice or unload has a record too, and needs no decision. If a recall names
+pieces as doubtful because of it, and nothing was placed from that reel, decide --became 'taken
+off'. If a recall says that untraced.csv has not a row, and no copy has it, look for that work on
+paper, then decide lost.
 
 --line     which line's, where several are set up
 --archive  the folder with the sealed files (that of the set-up file, else
            /var/lib/tracedesk/sealed)
---status   where collect and decide write untraced.json, which the station reads (that of the set-up
-           file, if it is there)
 --became   scrapped, reworked, used as it is, sent again, or words of your own; of a refused reel,
            taken off
 
@@ -88,8 +86,8 @@ def record_heads(asked: argparse.Namespace) -> None:
 
 
 def tell_station(asked: argparse.Namespace, records: list[untraced.Record]) -> None:
-    folder = asked.status or places.of_archive(asked.archive).status
-    if asked.status or folder.is_dir():
+    folder = asked.archive.with_name(model.STATUS)
+    if folder.is_dir():
         untraced.write_status(folder, records)
 
 
@@ -166,15 +164,13 @@ def main() -> int:
         )
         if verb == "list":
             it.add_argument("--all", action="store_true")
-        else:
-            it.add_argument("--status", type=pathlib.Path, metavar="FOLDER")
         if verb == "collect":
             it.add_argument("--every", type=float, metavar="SECONDS")
         if verb == "decide":
             it.add_argument("id", type=words_of)
             for name in ("by", "became", "reason"):
                 it.add_argument(f"--{name}", required=True, type=words_of, metavar="TEXT")
-        options.set_up(it, status="")
+        options.set_up(it)
     asked = reader.parse_args()
     asked.archive = asked.archive.absolute()
     with plant.as_owner(asked.archive.parent / places.DESK.name):

@@ -2,7 +2,7 @@
 all.
 
 usage: tracedesk-watch [--to FILE] [--port N] [--health URL] [--unit NAME] [--setup FILE]
-                       [--db FILE] [--clock FILE] [--drained FILE] [--status FOLDER]
+                       [--db FILE] [--clock FILE] [--drained FILE]
                        [--timeout SECONDS]
        tracedesk-watch --list
 
@@ -52,6 +52,7 @@ from tracedesk_ops import (
     asking,
     files,
     options,
+    model,
     places,
     plant,
     reader_of,
@@ -162,7 +163,7 @@ class Watch:
     def __init__(self, asked: argparse.Namespace) -> None:
         self.asked, self.desk = asked, Desk(asked.port, asked.timeout)
         self.is_up = False
-        self.sealed = places.of_words({"db": str(asked.db)}).archive
+        self.sealed = asked.db.with_name(model.SEALED)
 
     def tried(self, name: str, source: Samples) -> Generator[Sample, None, bool]:
         """The samples of a source, and whether it gave all; else the reason is told."""
@@ -284,7 +285,8 @@ class Watch:
         hide the others.
         """
         spoilt = []
-        there = self.asked.status.glob("[!.]*.json") if is_there(self.asked.status) else ()
+        folder = self.asked.db.with_name(model.STATUS)
+        there = folder.glob("[!.]*.json") if is_there(folder) else ()
         for file in sorted(there):
             try:
                 yield from list(said_by(file.name, json.loads(file.read_bytes())))
@@ -395,12 +397,6 @@ def words() -> argparse.Namespace:
         help=f"senders are sent away while it is there ({options.DRAINED})",
     )
     reader.add_argument(
-        "--status",
-        type=pathlib.Path,
-        metavar="FOLDER",
-        help="what senders say of themselves (that of the set-up file)",
-    )
-    reader.add_argument(
         "--timeout",
         type=float,
         default=10,
@@ -409,7 +405,6 @@ def words() -> argparse.Namespace:
     )
     options.set_up(reader)
     asked = reader.parse_args()
-    asked.status = asked.status or places.of_desk(asked.db).status
     if asked.timeout <= 0:
         reader.error("--timeout: an answer takes some time")
     if not asked.health.startswith("https://"):
