@@ -8,11 +8,13 @@ from typing import Any, Callable
 import pytest
 from lab.recalls import Asking, lot_of, recall, recalled, state_of
 from lab.world import World
-from tracedesk_ops import firstlook
+from tracedesk_ops import firstlook, store
 
 pytestmark = [pytest.mark.xdist_group("recall")]
 
-CHANGED = "its files were changed meanwhile, as by a roll-over or a restore: ask again"
+CHANGED = (
+    "it was changed meanwhile, or what is around it, as by a roll-over or a restore: ask again"
+)
 ALL = [pytest.param(24, id="some"), pytest.param(1, id="all", marks=pytest.mark.whole)]
 # a tracedesk-chain that ends otherwise: how, and what a recall says then
 ENDS = {
@@ -40,11 +42,12 @@ def test_pieces_and_what_is_left_are_those_of_the_files(
         assert sum(threads.map(lambda name: asking.expect_right(kind, name), names))
 
 
-@pytest.mark.parametrize("column", ["file", "line"])
-def test_a_board_lies_in_two(asking: Asking, world: World, column: str) -> None:
-    names = {"file": [its.name for its in world.first.archived[:2]], "line": ["L1", "L2"]}[column]
+@pytest.mark.parametrize(
+    ("column", "value"), [("file", "L1-1; L1-2"), ("line", "L1; L2")], ids=["files", "lines"]
+)
+def test_a_board_lies_in_two(asking: Asking, column: str, value: str) -> None:
     boards = (asking.tables("board", name)["boards"][0] for name in asking.names("board"))
-    assert any({*names} <= {*board[column].split("; ")} for board in boards)
+    assert any(value in board[column] for board in boards)
 
 
 @pytest.mark.parametrize("end", ENDS)
@@ -97,16 +100,17 @@ def test_nothing_changes_meanwhile(faults: Callable[..., list[str]]) -> None:
 def test_a_desk_that_is_put_aside_meanwhile_is_named(
     faults: Callable[..., list[str]], world: World
 ) -> None:
-    lost = world.first.folder / "lost"
+    archive = world.first.archive
+    aside = archive / "aside/2026-03-02T060000Z"
 
     def put_aside() -> None:
-        lost.mkdir(exist_ok=True)
-        (lost / f"{'0' * 24}.desk").touch()
+        aside.mkdir(parents=True, exist_ok=True)
+        (aside / "desk").touch()
 
     try:
-        assert faults(put_aside) == [f"{world.first.folder}: {CHANGED}"]
+        assert faults(put_aside) == [f"{archive}: {CHANGED}"]
     finally:
-        shutil.rmtree(lost)
+        shutil.rmtree(aside.parent)
 
 
 def test_an_archive_that_changes_meanwhile_is_named(
@@ -125,3 +129,11 @@ def test_an_archive_that_changes_meanwhile_is_named(
         assert faults() == [f"L1: {file}: it was changed while it was asked: ask again"]
     finally:
         os.utime(file, ns=(kept.st_atime_ns, kept.st_mtime_ns))
+
+
+def test_a_log_that_is_gone_by_now_is_no_database(folder: pathlib.Path) -> None:
+    class Gone(type(folder)):  # type: ignore[misc]  # the class of paths depends on the system
+        def is_file(self) -> bool:
+            return True
+
+    assert not store.is_database(Gone(folder / "gone"))

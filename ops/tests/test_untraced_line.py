@@ -99,7 +99,7 @@ def expired(plant: Plant) -> Plant:
 
 
 def collect(plant: Plant) -> None:
-    plant.untraced("collect").expect()
+    plant.untraced("collect", "--status", plant.status).expect()
 
 
 ODD = {  # what a scanner or a program may put into a report that no desk takes
