@@ -1,6 +1,7 @@
 """The subcommands that keep a line's files: what they do, what they say, and their statuses."""
 from __future__ import annotations
 
+import argparse
 import os
 import pathlib
 import shutil
@@ -63,6 +64,13 @@ def test_a_folder_without_a_line_stays_as_it_is(
     assert called.ends(subcommand) == 3
     assert "is no line's folder" in capsys.readouterr().err
     assert sorted(called.line.path.rglob("*")) == [theirs.parent, theirs]
+
+
+@pytest.mark.parametrize("name", ["", ".", "..", "~", "L 1"])
+def test_what_is_no_name_names_no_line(name: str) -> None:
+    """Least of all the folder above that of a line."""
+    with pytest.raises(argparse.ArgumentTypeError):
+        cli.line_named(name)
 
 
 def test_seals_of_a_line_that_goes_on_end_with_0_and_three_are_kept(called: Called) -> None:

@@ -190,7 +190,7 @@ APART = {"import": "importing", "label": "labels", "events": "events"}
 
 def line_named(name: str) -> LineFolder:
     """The folder of a line."""
-    path = Path(name) if "/" in name else places.HOME / name
+    path = Path(name) if "/" in name else places.HOME / options.line_name(name)
     return LineFolder(path.resolve())
 
 
