@@ -2,7 +2,7 @@
 """A client in a few lines of the package `tracedesk`: makes a message for each board that it reads,
 and sends it until it is answered.
 
-usage: examples/client.py [--url URL] [--spool FOLDER] MACHINE
+usage: examples/client.py [--url URL] [--spool FILE] MACHINE
 
 examples:
   echo SN-117 | examples/client.py M1
@@ -43,7 +43,7 @@ def main() -> int:
         usage=argparse.SUPPRESS,
     )
     reader.add_argument("--url", default="http://127.0.0.1:8080")
-    reader.add_argument("--spool", metavar="FOLDER")
+    reader.add_argument("--spool", metavar="FILE")
     reader.add_argument("machine", metavar="MACHINE")
     asked, refused = reader.parse_args(), 0
     spool = Spool(asked.spool) if asked.spool else None

@@ -76,7 +76,8 @@ class Bridge:
             has_place = name in self.passed or len(self.passed) < MOST_NAMES
             self.passed[name if has_place else "others"] += 1
             return Came([f"passed {name}"], [])
-        put = [self.kept.put(it) for it in made]
+        with self.kept.spool.whole():
+            put = [self.kept.put(it) for it in made]
         self.counts["put in"] += sum(is_new for _, is_new in put)
         self.counts["there already"] += sum(not is_new for _, is_new in put)
         return Came(["kept " + " ".join(name for name, _ in put)], [name for name, _ in put])
@@ -98,8 +99,10 @@ class Bridge:
         """Takes a line, a file or a body of a source, and comes back once what it gives is on
         disk.
         """
-        found = (front or self.front)(data)
-        came = [patiently(lambda: self.take_one(it, source)) for it in found]
+        found, came = (front or self.front)(data), []
+        for it in found:
+            came.append(patiently(lambda: self.take_one(it, source)))
+            self.kept.live()
         self.counts["read"] += len(came) or 1
         if not came:
             self.passed["[]"] += 1
@@ -116,7 +119,8 @@ class Bridge:
         return ", ".join(said) + gaps
 
     def look(self) -> None:
-        """Tells each minute how far it is, where that is news."""
+        """Says that the machine is heard, and each minute how far it is, where that is news."""
+        self.kept.live()
         if time.monotonic() >= self.news and self.summary() != self.told:
             self.told, self.news = self.summary(), time.monotonic() + NEWS
             tell(self.told)

@@ -29,7 +29,8 @@ class Folder:
         """The files, the oldest first."""
         found = []
         for path in self.path.iterdir():
-            if fronts.of_file(path, self.form) and not path.name.startswith("."):
+            is_record = fronts.of_file(path, self.form) and not self.bridge.kept.is_own(path)
+            if is_record and not path.name.startswith("."):
                 its = path.stat()
                 if stat.S_ISREG(its.st_mode):
                     found.append((path, its))

@@ -1,17 +1,12 @@
 """What a bridge keeps: the messages in its spool, and the records of which it can make none."""
 from __future__ import annotations
 
-import contextlib
 import hashlib
-import json
 import pathlib
-import time
-from typing import Any
 
 from tracedesk import Spool, disk, forms, records
 
-AN_HOUR = 3600.0
-MOST_KNOWN = 100_000  # messages, and then the spool is read anew
+FEEDER = "the bridge"  # the name of its lease
 
 
 def digest(text: bytes) -> str:
@@ -19,69 +14,40 @@ def digest(text: bytes) -> str:
 
 
 class Kept:
-    """The spool, and which messages wait in it, were sent in the last days, or were not taken."""
+    """The spool, which knows the messages that wait in it, were sent in the last days, or were not
+    taken. `feeds` is whether the bridge is the voice of a machine, and not of a file that has an
+    end.
+    """
 
-    def __init__(self, spool: Spool) -> None:
-        self.spool = spool
-        # Of each UniqueID the digest of its message, and its name in the spool.
-        self.known: dict[Any, tuple[str, str]] = {}
-        self.refused: dict[Any, str] = {}
-        with contextlib.suppress(FileNotFoundError):
-            self.refused = json.loads((spool.folder / ".refused").read_bytes())
-        self.read()
-
-    def read(self) -> None:
-        """Looks at the messages that wait, and then at those that were answered: the sender moves
-        them in this direction. One that was refused is known by its copy in `sent` even if somebody
-        deletes it aside."""
-        self.known = {}
-        for folder in (self.spool.waiting, self.spool.aside, self.spool.sent):
-            for path in sorted(it for it in folder.iterdir() if it.suffix in (".json", ".refused")):
-                with contextlib.suppress(FileNotFoundError, ValueError, AttributeError, TypeError):
-                    text = path.read_bytes()
-                    self.known.setdefault(
-                        json.loads(text).get("UniqueID"), (digest(text), path.stem)
-                    )
-        self.most = len(self.known) + MOST_KNOWN
-        self.remember_refused()
-
-    def remember_refused(self) -> None:
-        """Keeps the UniqueIDs of reports of work that were not taken, also for when somebody has
-        deleted them aside.
-        """
-        found, self.due = dict(self.refused), time.monotonic() + AN_HOUR
-        for path in [*self.spool.aside.glob("*.json"), *self.spool.sent.glob("*.refused")]:
-            with contextlib.suppress(FileNotFoundError, ValueError, AttributeError, TypeError):
-                told = json.loads(path.read_bytes())
-                if records.is_report(told):
-                    found.setdefault(told["UniqueID"], path.stem)
-        if found != self.refused:
-            disk.write_synced(self.spool.folder / ".refused", json.dumps(found).encode())
-            disk.sync_folder(self.spool.folder)
-            self.refused = found
+    def __init__(self, spool: Spool, feeds: bool = False) -> None:
+        self.spool, self.feeds = spool, feeds
 
     def put(self, message: forms.Message) -> tuple[str, bool]:
         """Puts a message in where it isn't there yet: its name in the spool, and whether it is new.
         A report of work that was not taken is never put in again, whatever it is made of now: a
         person decides about it."""
-        if time.monotonic() >= self.due:
-            self.remember_refused()
-        if message.unique_id in self.refused and records.is_report(
-            {"MessageName": f"TraceDesk.{message.word}"}
-        ):
-            return self.refused[message.unique_id], False
-        kept, name = self.known.get(message.unique_id, ("", ""))
-        if kept == digest(message.text):
-            return name, False
-        if len(self.known) >= self.most:
-            self.read()
-        name = self.spool.put(message)
-        self.known[message.unique_id] = digest(message.text), name
-        return name, True
+        is_report = records.is_report({"MessageName": f"TraceDesk.{message.word}"})
+        for it in self.spool.of_uid(message.unique_id):
+            if it.text == message.text or is_report and it.state in ("aside", "dropped"):
+                return it.name, False
+        return self.spool.put(message), True
 
     def is_answered(self, name: str) -> bool:
         """Whether the answer to a message is on disk: until then it waits."""
-        return not (self.spool.waiting / f"{name}.json").exists()
+        return self.spool.kept(name).state != "waiting"
+
+    def is_own(self, path: pathlib.Path) -> bool:
+        """Whether a file is of the spool. It is opened by SQLite alone: when another handle of it
+        is closed, this process loses its locks.
+        """
+        mine = self.spool.path.absolute()
+        is_named_so = path.name in (mine.name, f"{mine.name}-wal", f"{mine.name}-shm")
+        return is_named_so and path.absolute().parent.resolve() == mine.parent.resolve()
+
+    def live(self) -> None:
+        """Says that the machine is heard."""
+        if self.feeds:
+            self.spool.renew(FEEDER)
 
 
 class Dead:

@@ -6,7 +6,6 @@ import contextlib
 import errno
 import fnmatch
 import gzip
-import json
 import lzma
 import os
 import pathlib
@@ -14,6 +13,7 @@ import re
 import shutil
 import stat
 import tempfile
+import threading
 import time
 import zlib
 from typing import IO, Any, BinaryIO, Callable, Dict, Optional
@@ -21,7 +21,7 @@ from typing import IO, Any, BinaryIO, Callable, Dict, Optional
 import fronts
 from bridge import Bridge, Came
 from keeping import digest
-from tracedesk import Spool, SpoolError, console, disk
+from tracedesk import console, disk
 
 LOOK = 0.2  # seconds between two looks at what is followed
 PIECE = 1 << 16  # bytes that are read at a time, and more where a line is longer
@@ -41,23 +41,30 @@ SETTLES = 2.0  # seconds after a change of the folder, in which another one may 
 UNFINISHED = 5.0  # seconds that the next file waits for the end of a line of such a file
 
 Told = Dict[str, Any]  # what is kept of a file
-KEPT: dict[str, dict[str, type]] = {
-    "Files": {"At": int, "Head": str, "Before": str, "Inode": int},
-    "Known": {"Head": str, "Inode": int, "Size": int},
-}
 
 
 def take_lines(bridge: Bridge, stream: BinaryIO) -> None:
     """Takes a stream, and says of each line what came of it."""
-    heading, number = b"", 0
+    heading, number, waits = b"", 0, threading.Event()
+
+    def live() -> None:
+        """The stream is open: somebody has its other end, also while he says nothing."""
+        while True:
+            if waits.wait():
+                bridge.kept.live()
+            time.sleep(LOOK)
+
+    threading.Thread(target=live, daemon=True).start()
+    waits.set()
     for line in disk.lines_of(stream):
-        whole = line if isinstance(line, bytes) else b"".join(line)
+        waits.clear()
         number += 1
         if bridge.form == "csv" and not heading:
-            heading = whole
+            heading = line
         else:
-            for told in take_line(bridge, whole, "", heading, number).told:
+            for told in take_line(bridge, line, "", heading, number).told:
                 console.say(told)
+        waits.set()
 
 
 def take_line(bridge: Bridge, line: bytes, source: str, heading: bytes, number: int) -> Came:
@@ -186,27 +193,6 @@ def begins_so(head: bytes, known: Told) -> bool:
     return int(known["Size"]) > 0 and known["Head"] == digest(head[: known["Size"]])
 
 
-def read_position(spool: Spool) -> dict[str, Any]:
-    """How far the files of a spool were read, by their paths."""
-    place = spool.folder / ".position"
-    try:
-        told: dict[str, Any] = json.loads(place.read_text())
-        for mine in told.values():
-            for name, members in KEPT.items():
-                for it in mine[name]:
-                    if any(type(it[member]) is not kind for member, kind in members.items()):
-                        raise ValueError
-        return told
-    except FileNotFoundError:
-        return {}
-    except (ValueError, KeyError, TypeError, AttributeError):
-        raise SpoolError(
-            f"{place} is damaged, and says no more how far files were read: give what wasn't read"
-            f" by standard input, and delete {place}. Then a file is read from its beginning, and"
-            " rotated ones aren't read"
-        ) from None
-
-
 class Following:
     """The file of a path, and those that were moved away from there and may still get lines, the
     oldest first.
@@ -251,6 +237,7 @@ class Following:
                 there = path.stat()
                 if (
                     path.name != self.path.name
+                    and not self.bridge.kept.is_own(path)
                     and self.rotated.fullmatch(path.name)
                     and stat.S_ISREG(there.st_mode)
                     and there.st_size
@@ -263,7 +250,8 @@ class Following:
         where it is there in no other way. One that is there and can't be read now is an OSError,
         and no gap: it is waited for."""
         files: list[Opened] = []
-        others = sorted(it for it in self.path.parent.iterdir() if it != self.path)
+        all_ = sorted(it for it in self.path.parent.iterdir() if it != self.path)
+        others = [it for it in all_ if not self.bridge.kept.is_own(it)]
         there = [self.path, *others]
         for path in sorted(there, key=lambda it: it.suffix in PACKED):
             is_packed, is_same = path.suffix in PACKED, False
@@ -418,9 +406,7 @@ class Following:
                 if it.at and it.packed and it.packed not in self.known
             ]
             self.all[str(self.path)] = {"Files": told, "Known": self.known}
-            place = self.bridge.kept.spool.folder / ".position"
-            disk.write_synced(place, json.dumps(self.all).encode())
-            disk.sync_folder(place.parent)
+            self.bridge.kept.spool.remember("position", self.all)
             self.kept = told
 
 
@@ -440,10 +426,13 @@ def take_file(
     """Takes a file; one that is followed, and then those that take its place, without an end."""
     if not follows:
         path.stat()
-    position = read_position(bridge.kept.spool)
+    position = bridge.kept.spool.recall("position") or {}
     following = console.patiently(lambda: Following(bridge, path, position, rotated, follows))
     while True:
-        if not console.patiently(following.look):
+        is_news = console.patiently(following.look)
+        if following.files:  # else nobody hears the machine
+            bridge.look()
+        if not is_news:
             if not follows:
                 break
             time.sleep(LOOK)

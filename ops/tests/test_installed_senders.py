@@ -113,13 +113,13 @@ def test_a_sender_goes_on_over_a_roll_over_and_a_copy(machine: Machine) -> None:
 
 def test_a_thousand_messages_under_kills_are_taken_once_and_in_order(machine: Machine) -> None:
     """A follower sends through TLS while it, nginx and the desk are killed in turn."""
-    machine.shell("rm -rf /tmp/out /tmp/spool /tmp/sender.*; mkdir /tmp/out")
+    machine.shell("rm -rf /tmp/out /tmp/spool* /tmp/sender.*; mkdir /tmp/out")
     texts = [part(f"K{number:04}") for number in range(MESSAGES)]
     machine.write("".join(f"{text}\n" for text in texts), "/tmp/out/1.tmp")
     machine.shell("mv /tmp/out/1.tmp /tmp/out/1.jsonl")
     sending, kills = machine.started(FOLLOWER, by_client=True), dict.fromkeys(KILLED, 0)
     wait_for("it follows", lambda: machine.shell("cat /tmp/sender.pid 2> /dev/null || true"))
-    answered = "cat /tmp/spool/answers/*.jsonl 2> /dev/null"
+    answered = "tracedesk-send --spool /tmp/spool --list all | grep Answer || true"
 
     def kill_one() -> bool:
         assert sending.poll() is None, machine.shell("cat /tmp/sender.txt")
@@ -150,7 +150,8 @@ class Unit:
         return self.machine.shell(f"systemctl show -P {what} tracedesk-send@m1").strip()
 
     def answered(self) -> int:
-        return int(self.machine.shell(f"cat {self.AT}/spool/answers/*.jsonl | wc -l"))
+        listed = f"tracedesk-send --spool {self.AT}/spool --list all"
+        return int(self.machine.shell(f"{listed} | grep -c Answer || true"))
 
     def put(self, name: str, count: int, user: str = "root") -> None:
         """Puts a file of so many messages before it, as a user."""
@@ -180,9 +181,9 @@ def test_the_senders_unit_goes_on_over_a_kill_and_a_stop_of_the_desk(unit: Unit)
     wait_for("the sender is back", back)
     machine.restart("systemctl start tracedesk")
     wait_for("200 messages are answered", lambda: unit.answered() == before + 200)
-    machine.shell(f"runuser -u machine -- ls {unit.AT}/spool && exit 1 || true")
-    folders = " ".join(f"{unit.AT}/{name}" for name in ("spool/aside", "spool/waiting", "out"))
-    assert machine.shell(f"ls {folders} | grep -c json || true").strip() == "0"
+    machine.shell(f"runuser -u machine -- cat {unit.AT}/spool > /dev/null && exit 1 || true")
+    listed = [f"tracedesk-send --spool {unit.AT}/spool --list {it}" for it in ("aside", "waiting")]
+    assert machine.shell(f"{'; '.join(listed)}; ls {unit.AT}/out") == ""
 
 
 def test_the_senders_unit_names_a_wrong_password_and_goes_on_with_the_right_one(unit: Unit) -> None:

@@ -84,7 +84,7 @@ def test_tracedesk_send_of(machine: Machine, journal: Callable[[str], None]) -> 
     at = "/var/lib/tracedesk-send/m1"
     machine.write(f"{part('each-send')}\n", "/tmp/each.tmp")
     machine.shell(f"cp /tmp/each.tmp {at}/out/each.tmp; mv {at}/out/each.tmp {at}/out/each.jsonl")
-    answered = f"grep -h each-send {at}/spool/answers/*.jsonl 2> /dev/null || true"
+    answered = f"tracedesk-send --spool {at}/spool --list sent | grep each-send || true"
     wait_for("the answer", lambda: "Accepted" in machine.shell(answered))
     journal("tracedesk-send@m1")
 
@@ -197,7 +197,7 @@ def test_tracedesk_untraced(machine: Machine, journal: Callable[[str], None]) ->
     how = "--password-file /etc/tracedesk/m1.password --spool /tmp/each-spool"
     machine.write(f"{json.dumps(said)}\n", "/tmp/each-untraced.jsonl")
     call = f"{send} {how} --untraced {URL}/line/untraced"
-    machine.by_client(f"rm -rf /tmp/each-spool; {send} {how} --put /tmp/each-untraced.jsonl")
+    machine.by_client(f"rm -rf /tmp/each-spool*; {send} {how} --put /tmp/each-untraced.jsonl")
     machine.by_client(f"{call} || test $? = 1")
     row = "tracedesk-untraced list 2> /dev/null | grep SN-each || true"
     wait_for("its row", lambda: machine.shell(row))

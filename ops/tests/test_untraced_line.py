@@ -22,7 +22,7 @@ class Plant:
     def __init__(self, line: Line) -> None:
         self.line, self.said = line, 0
         self.inbox, self.status = line.folder / "untraced", line.folder / "status"
-        for folder in (line.archive, self.inbox, self.status, line.folder / "m1"):
+        for folder in (line.archive, self.inbox, self.status):
             folder.mkdir(parents=True)
         self.handed_on: list[Word] = ["--untraced", self.inbox, "--status", self.status]
         self.handed_on += ["--name", "m1"]

@@ -1,11 +1,13 @@
 """What tests of senders share: messages, and servers at a port that answer as a desk or a proxy."""
 from __future__ import annotations
 
+import contextlib
 import http.server
 import json
 import pathlib
+import sqlite3
 import threading
-from typing import Any, Dict, Mapping
+from typing import Any, Dict, List, Mapping, Tuple
 
 PATIENCE = 600  # seconds for what must come: a machine may be busy
 SENDER = pathlib.Path(__file__).resolve().parents[1] / "tracedesk-send"
@@ -23,6 +25,21 @@ def told(word: str, uid: str, source: str = "S", at: str = MORNING, **body: Any)
 
 def text(word: str, uid: str, source: str = "S", **body: Any) -> bytes:
     return json.dumps(told(word, uid, source, **body)).encode()
+
+
+def rows_in(spool: pathlib.Path, query: str) -> List[Tuple[Any, ...]]:
+    """What a spool has, while others write to it; nothing where it isn't there yet."""
+    with contextlib.suppress(sqlite3.OperationalError):
+        its = sqlite3.connect(f"file:{spool}?mode=rw", uri=True, timeout=PATIENCE)
+        with contextlib.closing(its) as database:
+            return database.execute(query).fetchall()
+    return []
+
+
+def texts_in(spool: pathlib.Path, state: str) -> Dict[str, bytes]:
+    """The messages of a state by their names, in their order."""
+    its = rows_in(spool, f"SELECT n, text FROM message WHERE state = '{state}' ORDER BY n")
+    return {f"{n:012}": text for n, text in its}
 
 
 class Answering(http.server.BaseHTTPRequestHandler):

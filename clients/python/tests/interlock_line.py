@@ -8,7 +8,7 @@ from typing import Any, Dict, Optional
 import at_port
 from desk_model import Server
 
-from tracedesk import answers, asking, desk, disk, interlock, scans, spool
+from tracedesk import answers, asking, desk, interlock, scans, spool
 
 
 class Line:
@@ -48,7 +48,7 @@ class Line:
         self.asker.look("M1")
         answer = answers.read(self.model.say(json.dumps(told).encode())[1])
         assert answer is not None
-        self.states.judged(disk.spelled(name or self.names), told, answer)
+        self.states.judged(spool.spelled(name or self.names), told, answer)
         return self.state()
 
     def listed(self, told: Dict[str, Any], day: str = "2026-03-02") -> str:
@@ -74,6 +74,7 @@ class Line:
 
     def ask(self) -> None:
         """The next question, whose turn has come."""
+        self.states.feeders = {"program": interlock.clock()}
         self.states.of("M1").asked = -float("inf")
         self.asker.ask()
 

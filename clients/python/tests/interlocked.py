@@ -118,7 +118,10 @@ class Plant:
 
     def is_idle(self) -> bool:
         """Whether nothing of the machine waits for an answer."""
-        return not any(self.out.iterdir()) and not any(self.room.glob("spool/waiting/*"))
+        return not any(self.out.iterdir()) and not self.waits()
+
+    def waits(self) -> bool:
+        return bool(at_port.texts_in(self.room / "spool", "waiting"))
 
     def calls(self) -> Iterator[Tuple[float, str, str]]:
         """Each call of the command: when, the state, and the reason."""
@@ -235,13 +238,11 @@ class Plant:
             return False
         for it in self.out.glob("*.jsonl"):
             it.unlink()
-        waits = list((self.room / "spool/waiting").glob("*.json"))
+        waits = self.waits()
         self.start()
         self.wait_for(lambda: any(at > end + YOUNG for at, _, _ in self.calls()))
         time.sleep(0.15)
-        return bool(waits) or not any(
-            state == "go" for at, state, _ in self.calls() if at > end + YOUNG
-        )
+        return waits or not any(state == "go" for at, state, _ in self.calls() if at > end + YOUNG)
 
 
 def figures(kills: int, stopped: int, took: Dict[str, List[float]]) -> Dict[str, Any]:

@@ -17,8 +17,9 @@ import threading
 import time
 from typing import Any, Sequence
 
+from at_port import rows_in, texts_in
 from tracedesk_dev import program as programs
-from tracedesk_dev.trial import rows_in
+from tracedesk_dev import trial
 
 PATIENCE = 900  # seconds without an answer more, after which it stands still
 
@@ -31,7 +32,7 @@ def fed(program: pathlib.Path, file: pathlib.Path, given: bytes) -> bytes:
 
 def tables(file: pathlib.Path) -> dict[str, list[Any]]:
     with contextlib.closing(sqlite3.connect(file)) as database:
-        return rows_in(database)
+        return trial.rows_in(database)
 
 
 def is_as_fed(program: pathlib.Path, folder: pathlib.Path) -> None:
@@ -43,10 +44,10 @@ def is_as_fed(program: pathlib.Path, folder: pathlib.Path) -> None:
     assert [name for name in wanted if got.get(name) != wanted[name]] == []
 
 
-def answers_in(spool: pathlib.Path) -> list[dict[str, Any]]:
-    """The lines of answers of a spool, in order."""
-    files = sorted((spool / "answers").iterdir())
-    return [json.loads(line) for file in files for line in file.read_bytes().splitlines()]
+def answers_in(spool: pathlib.Path) -> list[tuple[int, Any]]:
+    """The answers of a spool, each with the number of its message."""
+    its = rows_in(spool, "SELECT n, answer FROM message WHERE answer NOT NULL ORDER BY n")
+    return [(n, json.loads(answer)) for n, answer in its]
 
 
 class Run:
@@ -102,12 +103,12 @@ class Run:
 
     def answered(self) -> int:
         """How many messages have an answer: the number of the last one in the spool."""
-        with contextlib.suppress(OSError, ValueError, LookupError):
-            with open(max((self.spool / "answers").iterdir()), "rb") as file:
-                file.seek(max(0, file.seek(0, os.SEEK_END) - 4096))
-                whole = file.read().rpartition(b"\n")[0]
-            return int(json.loads(whole.rpartition(b"\n")[2])["Message"])
-        return 0
+        its = rows_in(self.spool, "SELECT max(n) FROM message WHERE answer NOT NULL")
+        return its[0][0] or 0 if its else 0
+
+    def waits(self) -> bool:
+        """Whether a message waits."""
+        return bool(texts_in(self.spool, "waiting"))
 
     def go(self) -> None:
         """Kills whenever so many answers more are there, and a moment after; until all is done."""
@@ -141,14 +142,12 @@ class Run:
     def look_at(self, given: Sequence[bytes]) -> None:
         """What holds of the desk and the spool, if these messages were wanted in this order."""
         self.end()
-        got = [(int(line["Message"]), line["Answer"]) for line in answers_in(self.spool)]
-        assert got == [(number, json.loads(line)) for number, line in enumerate(self.clean, 1)]
+        assert answers_in(self.spool) == [
+            (number, json.loads(line)) for number, line in enumerate(self.clean, 1)
+        ]
         is_as_fed(self.program, self.at)
-        aside = {file.stem: file.read_bytes() for file in (self.spool / "aside").glob("*.json")}
-        assert aside == {
+        assert texts_in(self.spool, "aside") == {
             f"{number:012}": line
             for number, (line, answer) in enumerate(zip(given, self.clean), 1)
             if json.loads(answer)["Answer"] in ("Refused", "Faulty")
         }
-        for name in aside:
-            assert "To do: " in (self.spool / f"aside/{name}.why").read_text()

@@ -18,6 +18,8 @@ from outside_desk import Kept, Wrong
 from outside_way import BEFORE
 from outside_world import REAL, Process, World, line
 
+TEN_DAYS = 864_000  # seconds by which a clock is set
+SET_BACK = 60 * TEN_DAYS  # more than it may be set back in a run
 BEGUN = 1_772_431_200.0  # seconds: what a rotated file's time is at the beginning of a run
 ROTATIONS = (
     "numbers",
@@ -101,7 +103,7 @@ class Run:
         """The file is moved away; its writer stays on it for a line or two, and the file of that
         name comes after the last of them. It may be packed then.
         """
-        if self.log is None or not (self.world.room / "spool/.position").exists():
+        if self.log is None or not self.world.spool.recall("position"):
             return  # what was moved away before the bridge ever ran is given by hand
         log, self.number = self.world.log, self.number + 1
         new = log.parent / {
@@ -173,10 +175,8 @@ class Run:
         """Whether the bridge has kept that it read each file."""
         if self.log is None and not self.world.log.exists():
             return True
-        with contextlib.suppress(OSError, ValueError, LookupError):
-            told = json.loads((self.world.room / "spool/.position").read_text())[
-                str(self.world.log.absolute())
-            ]["Files"]
+        with contextlib.suppress(OSError, ValueError, LookupError, TypeError):
+            told = self.world.spool.recall("position")[str(self.world.log.absolute())]["Files"]
             there = {
                 it.stat().st_ino: (
                     gzip.decompress(it.read_bytes()) if it.suffix == ".gz" else it.read_bytes()
@@ -282,7 +282,7 @@ class Run:
             ]
             self.chance.choice(does)()
             world.sleep(self.chance.choice((0, 0.1, 1, 5, 20)))
-            world.ahead += self.chance.choice((0,) * 9 + (864000, -864000))
+            world.ahead += self.chance.choice((0,) * 9 + (TEN_DAYS, -TEN_DAYS))
             self.look()
         self.settle()
         self.look_at_all()
@@ -323,13 +323,13 @@ class Run:
             raise Wrong(f"status {self.sender.status}: {self.sender.told()}")
 
     def restore(self) -> None:
-        """The desk is restored from a copy, and the operator sends again what was sent since
-        then.
+        """The desk is restored from a copy, and the operator sends again what was sent since then,
+        and before: a clock may have been set back meanwhile.
         """
         assert self.copied
         kept, since = self.copied
         self.world.desk.accepted, self.world.desk.told, self.world.desk.history = kept
-        self.sender = self.world.send("--again", spool_time(since))
+        self.sender = self.world.send("--again", spool_time(since - SET_BACK))
         self.until(self.sender.is_over)
         if self.sender.status:
             raise Wrong(f"again: status {self.sender.status}: {self.sender.told()}")
@@ -339,9 +339,8 @@ class Run:
         """None lost, none twice, none reordered; what was not taken is set aside, and nothing
         else.
         """
-        history, aside = self.world.desk.history, [
-            it.read_bytes() for it in sorted(self.world.spool.aside.glob("*.json"))
-        ]
+        history, its = self.world.desk.history, self.world.spool
+        aside = [its.text(name) for name in its.names("aside")]
         if len(set(history)) < len(history):
             raise Wrong(f"some acted twice: {history}")
         good = [
@@ -364,15 +363,6 @@ class Run:
         told = sorted(uid for uid in good for text in aside if f'"{uid}"'.encode() in text)
         if told != sorted(uid for uid in good if not uid.endswith(("good", "other"))):
             raise Wrong(f"set aside: {told}")
-        lines = [
-            json.loads(it)
-            for file in self.world.spool.answered.iterdir()
-            for it in file.read_bytes().splitlines()
-        ]
-        if len({it["Message"] for it in lines}) < len(lines) and "--again" not in [
-            word for it in self.world.processes for word in it.words
-        ]:
-            raise Wrong(f"answered twice: {lines}")
 
 
 def spool_time(seconds: float) -> str:
@@ -394,7 +384,6 @@ def run(seed: int, bridge: Any, room: str) -> dict[str, int]:
     finally:
         if it.log:
             it.log.close()
-        if world.spool.log:
-            os.close(world.spool.log[1])
+        world.spool.close()
     world.counts["messages"] = len(world.desk.history)
     return world.counts

@@ -4,7 +4,6 @@ place of the system.
 from __future__ import annotations
 
 import contextlib
-import datetime
 import fcntl
 import http.client
 import importlib.machinery
@@ -19,7 +18,7 @@ from unittest import mock
 
 from outside_desk import Wrong
 from outside_world import REAL, Said, Table, Task, World
-from tracedesk import answers, console, desk, forms, sender, sent, spool
+from tracedesk import answers, console, desk, forms, sender, spool
 
 BRIDGE = pathlib.Path(__file__).resolve().parents[3] / "examples/bridge/tracedesk-bridge"
 BEFORE = 150  # bytes by which a log is known again: two lines and more
@@ -177,11 +176,11 @@ def modelled(bridge: Any) -> Iterator[None]:
         monotonic=lambda: World.now.clock,
         time=lambda: REAL.time() + World.now.clock + World.now.ahead,
         sleep=lambda seconds: World.now.sleep(seconds),
+        clock_gettime=lambda _: World.now.clock,
+        CLOCK_BOOTTIME=0,
     )
-    date = datetime.date
-    day = types.SimpleNamespace(today=lambda: date.fromtimestamp(clock.time()))
-    modules = [answers, console, desk, sender, sent, spool]
-    modules += [sys.modules[name] for name in ("bridge", "keeping", "logs")] if bridge else []
+    modules = [answers, console, desk, sender, spool]
+    modules += [sys.modules[name] for name in ("bridge", "logs")] if bridge else []
     with contextlib.ExitStack() as patched:
 
         def patch(where: Any, name: str, it: Any) -> None:
@@ -190,7 +189,7 @@ def modelled(bridge: Any) -> Iterator[None]:
         for module in modules:
             if hasattr(module, "time"):
                 patch(module, "time", clock)
-        patch(spool, "datetime", types.SimpleNamespace(date=day))
+        patch(spool.Spool, "whole", lambda its: World.now.whole(its))
         patch(sender, "threading", types.SimpleNamespace(Event=Event, Thread=Thread))
         patch(http.client, "HTTPConnection", Way)
         patch(forms, "LONGEST_MESSAGE", 2000)
@@ -199,7 +198,7 @@ def modelled(bridge: Any) -> Iterator[None]:
             patch(bridge, "Filter", Table)
         patch(fcntl, "flock", lambda handle, how: World.now.flock(handle, how))
         patch(os, "fsync", lambda handle: World.now.fsync(handle))
-        for name in ("write", "pwrite", "pread", "rename", "open"):
+        for name in ("pread", "rename", "open"):
             patch(
                 os,
                 name,

@@ -6,6 +6,7 @@ run says. Time passes only where all of them sleep.
 """
 from __future__ import annotations
 
+import contextlib
 import datetime
 import errno
 import fcntl
@@ -13,11 +14,12 @@ import json
 import os
 import pathlib
 import random
+import sqlite3
 import sys
 import threading
 import time
 import types
-from typing import Any, Callable, ClassVar, Iterable, Optional
+from typing import Any, Callable, ClassVar, Iterable, Iterator, Optional
 
 import at_port
 from outside_desk import DeskModel, Wrong
@@ -41,12 +43,12 @@ class Table:
 REAL = types.SimpleNamespace(
     flock=fcntl.flock,
     time=time.time,
-    **{
-        name: getattr(os, name)
-        for name in ("write", "pwrite", "pread", "rename", "open", "replace")
-    },
+    **{name: getattr(os, name) for name in ("pread", "rename", "open")},
     unlink=pathlib.Path.unlink,
 )
+
+
+WHOLE = spool.Spool.whole
 
 
 class Killed(BaseException):
@@ -111,7 +113,7 @@ class Process:
         self.is_interrupted = self.was_interrupted = False
         # Whether nobody reads what it says.
         self.is_deaf = world.has_faults and world.chance.random() < 0.05
-        self.aside = set(world.spool.set_aside())
+        self.aside = set(world.spool.names("aside"))
         Task(world, self, self.run, takes_signals=True)
 
     def run(self) -> None:
@@ -228,8 +230,6 @@ class World:
             self.point()
             if self.has_faults and self.chance.random() < 0.004:
                 self.counts["faults of files"] += 1
-                if name == "write" and self.chance.random() < 0.5:
-                    return call(given[0], given[1][: len(given[1]) // 2])
                 raise OSError(
                     self.chance.choice((errno.ENOSPC, errno.EIO, errno.EACCES)),
                     "a fault of the model",
@@ -238,6 +238,23 @@ class World:
             return call(*given, **how)
 
         return called
+
+    @contextlib.contextmanager
+    def whole(self, its: spool.Spool) -> Iterator[None]:
+        """A transaction: something may happen before it and behind it, and the disk may be full.
+        Within it nobody else has a turn, as nobody has who waits for the file.
+        """
+        is_within = its.database.in_transaction
+        is_of_a_program = not is_within and self.running.process is not None
+        if is_of_a_program:
+            self.point()
+            if self.has_faults and self.chance.random() < 0.008:
+                self.counts["faults of files"] += 1
+                raise sqlite3.OperationalError("database or disk is full: a fault of the model")
+        with WHOLE(its):
+            yield
+        if is_of_a_program:
+            self.point()
 
     def flock(self, handle: int, how: int) -> Any:
         while not how & fcntl.LOCK_NB:
@@ -267,7 +284,7 @@ class World:
         """Whether the status of a sender, and what it said, is what happened."""
         if process.main is not send.main or "--again" in process.words:
             return
-        aside = set(self.spool.set_aside()) - process.aside
+        aside = set(self.spool.names("aside")) - process.aside
         status, told = process.status, process.told()
         stopped = "--stop-at-refusal" in process.words
         by_status: dict[Optional[int], bool] = {

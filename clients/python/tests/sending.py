@@ -74,8 +74,8 @@ class Lab:
     def uids(self) -> list[str]:
         return [uid for _, uid in self.server.came]
 
-    def waits(self) -> list[str]:
-        return sorted(it.name for it in (self.spool / "waiting").iterdir())
+    def names(self, state: str = "waiting") -> list[str]:
+        return list(at_port.texts_in(self.spool, state))
 
     def wait_for(self, call: Callable[[], object]) -> None:
         end = time.monotonic() + PATIENCE

@@ -3,15 +3,18 @@ before a model of a desk.
 """
 from __future__ import annotations
 
+import json
 import pathlib
 import signal
 import subprocess
+import sys
 import time
 from typing import Iterator
 
 import interlocked
 import pytest
-from at_port import PATIENCE
+from at_port import PATIENCE, SENDER
+from tracedesk import spool
 from tracedesk.command import LONGEST_CALL
 
 BY_SIGTERM = (-signal.SIGTERM, 128 + signal.SIGTERM)  # a main thread that hangs ends by the latter
@@ -54,6 +57,30 @@ def test_a_desk_that_hangs_stops(plant: interlocked.Plant) -> None:
     plant.wait_for(plant.is_permitted)  # a machine without messages may work while the desk answers
     plant.model.is_silent = True
     plant.wait_for(lambda: list(plant.calls())[-1][1:] == ("stop", "no answer for 3 seconds"))
+
+
+LIVES = """import sys, time; sys.path.insert(0, sys.argv[1]); from tracedesk import Spool
+spool = Spool(sys.argv[2])
+while True: spool.renew("the program of M1"); time.sleep(0.2)"""
+
+
+def test_a_program_that_is_killed_stops_its_machine(plant: interlocked.Plant) -> None:
+    """Nobody hears the machine then: the board that the desk has in work is no more that of the
+    machine.
+    """
+    at = plant.words.index("--follow")
+    plant.words[at : at + 2] = ["--stay"]
+    words = [sys.executable, "-c", LIVES, str(SENDER.parent), str(plant.room / "spool")]
+    with subprocess.Popen(words) as program:
+        plant.start()
+        start = json.dumps(plant.message("WorkStarted", Board="B1")).encode()
+        spool.Spool(plant.room / "spool").put(start)
+        plant.wait_for(plant.is_permitted)
+        program.kill()
+    wanted = "the machine isn't heard: the program of M1 doesn't run."
+    plant.wait_for(lambda: list(plant.calls())[-1][2].startswith(wanted))
+    assert list(plant.calls())[-1][1] == "stop"
+    assert plant.model.board == "B1"
 
 
 def hung(plant: interlocked.Plant, script: str) -> None:

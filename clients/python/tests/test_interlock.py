@@ -4,6 +4,7 @@ from __future__ import annotations
 import contextlib
 import json
 import pathlib
+import sqlite3
 import time
 from typing import Any, Dict, Iterator, List
 from unittest import mock
@@ -37,13 +38,9 @@ def test_the_questions_change_nothing(line: Line) -> None:
 
 def test_a_start_that_waits_stops(line: Line) -> None:
     line.start()
-    name = line.spool.put(json.dumps(line.message("WorkStarted", Board="B2")).encode())
+    line.spool.put(json.dumps(line.message("WorkStarted", Board="B2")).encode())
     line.states.look_ahead(line.spool.names())
     assert line.cause() == "waiting"
-    line.states.gone(name)
-    (line.spool.waiting / f"{name}.json").unlink()
-    line.states.look_ahead(line.spool.names())
-    assert line.state() == "go"
 
 
 def test_any_message_that_waits_too_long_stops(line: Line) -> None:
@@ -285,6 +282,27 @@ def test_silence_stops(line: Line) -> None:
     assert line.cause() == "silent"
 
 
+def test_a_machine_that_is_not_heard_stops(line: Line) -> None:
+    """Whoever feeds the spool is alive: its lease is in there, and one that was never given up
+    counts.
+    """
+    line.start()
+    line.states.look_at_feeders()
+    assert "nobody feeds the spool" in line.states.state("M1").reason
+    line.spool.renew("program")
+    line.spool.renew("the bridge")
+    line.states.look_at_feeders()
+    assert line.states.state("M1").word == "go"
+    line.spool.change("UPDATE feeder SET at = at - 11 WHERE name = 'the bridge'")
+    line.states.look_at_feeders()
+    state = line.states.state("M1")
+    assert state.fault and state.fault.cause == "silent"
+    assert "the bridge doesn't run" in state.reason
+    line.spool.release("the bridge")
+    line.states.look_at_feeders()
+    assert line.states.state("M1").word == "go"
+
+
 def test_what_was_asked_before_a_suspend_permits_nothing(line: Line) -> None:
     """Neither that of the desk nor what the list of scans had; an answer that came meanwhile is of
     before it too.
@@ -313,10 +331,10 @@ def test_a_desk_that_answers_oddly_stops(line: Line) -> None:
 
 def test_a_full_disk_and_a_clock_that_is_set_back_stop(line: Line) -> None:
     line.start()
-    full = OSError(28, "No space left on device")
-    with mock.patch.object(interlock, "write_synced", side_effect=full):
+    full = sqlite3.OperationalError("database or disk is full")
+    with mock.patch.object(line.spool, "remember", side_effect=full):
         line.states.look_at_disk()
-    assert line.reason() == "the spool can't be written: No space left on device"
+    assert line.reason() == "the spool can't be written: database or disk is full"
     line.states.look_at_disk()
     assert line.state() == "go"
     line.states.is_stuck = True

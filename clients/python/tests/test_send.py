@@ -12,6 +12,7 @@ import time
 from typing import Any, Callable, Iterator
 from unittest import mock
 
+import at_port
 import pytest
 from at_port import PATIENCE, SENDER
 from sending import Lab, Said, line
@@ -27,7 +28,7 @@ def lab(tmp_path: pathlib.Path) -> Iterator[Lab]:
 
 def test_standard_input_is_kept_and_sent_in_order(lab: Lab) -> None:
     done = lab.send("--follow", "-", given=b"\n".join([line("u1"), b"", line("u2"), line("u3")]))
-    assert (done.returncode, lab.uids(), lab.waits()) == (0, ["u1", "u2", "u3"], []), done.stderr
+    assert (done.returncode, lab.uids(), lab.names()) == (0, ["u1", "u2", "u3"], []), done.stderr
     assert done.stdout == b"kept 000000000001\nkept 000000000002\nkept 000000000003\n"
 
 
@@ -38,18 +39,21 @@ def test_what_is_not_taken_is_set_aside(lab: Lab) -> None:
         given=b"\n".join([line("bad1"), line("u2", "PartsDefined"), line("u3")]),
     )
     assert (done.returncode, lab.uids()) == (1, ["bad1", "u2", "u3"]), done.stderr
-    assert sorted(it.name for it in (lab.spool / "aside").glob("*.json")) == [
-        "000000000001.json",
-        "000000000002.json",
-    ]
-    assert "nearest is TraceDesk.PartDefined" in (lab.spool / "aside/000000000002.why").read_text()
+    told = [json.loads(it) for it in lab.send("--list", "aside").stdout.splitlines()]
+    assert [it["Message"] for it in told] == ["000000000001", "000000000002"]
+    assert lab.send("--show", "000000000001").stdout == line("bad1") + b"\n"
+    assert lab.send("--show", "aside").stdout.startswith(line("bad1") + b"\n")
+    assert "nearest is TraceDesk.PartDefined" in told[1]["Why"]
+    assert lab.send("--drop", "000000000001").returncode == 0
+    assert (lab.names("aside"), lab.names("dropped")) == (["000000000002"], ["000000000001"])
+    assert lab.send("--drop", "000000000003").returncode == 2
 
 
 def test_a_run_stops_at_a_refusal_where_that_is_told(lab: Lab) -> None:
     lab.send("--put", "-", given=line("bad1") + b"\n" + line("u2"))
     for _ in range(2):
         done = lab.send("--stop-at-refusal")
-        assert (done.returncode, lab.waits()) == (1, ["000000000001.json", "000000000002.json"])
+        assert (done.returncode, lab.names()) == (1, ["000000000001", "000000000002"])
         assert b"PartExists" in done.stderr
     assert lab.uids() == ["bad1", "bad1"]
 
@@ -89,7 +93,7 @@ def test_what_a_person_has_to_mend_is_reported_and_tried_seldom(lab: Lab) -> Non
     ):
         lab.server.script = [(status, {}, {"Answer": "Proxy", "Fault": "x"})]
         done = lab.send("--patience", "3")
-        assert (done.returncode, lab.waits(), lab.server.script) == (4, ["000000000001.json"], [])
+        assert (done.returncode, lab.names(), lab.server.script) == (4, ["000000000001"], [])
         assert told in done.stderr
     assert len(lab.uids()) == 4
     lab.server.script = [(it, {}, {}) for it in (401, 403, 404, 200)]
@@ -144,7 +148,7 @@ def test_two_senders_of_a_folder_lose_nothing(lab: Lab) -> None:
         subprocess.Popen(lab.words("--follow", lab.out, "--rate", "0"), stderr=subprocess.DEVNULL)
     ]
     try:
-        lab.wait_for(lambda: (lab.spool / ".identity").exists())
+        lab.wait_for(lambda: at_port.rows_in(lab.spool, "SELECT 1 FROM kept"))
         lab.out.rmdir()
         lab.out.mkdir()
         words = lab.words("--follow", lab.out, "--rate", "0")
@@ -227,18 +231,18 @@ def test_validate_warns_of_members_that_nobody_reads(tmp_path: pathlib.Path) -> 
 def test_patience_ends(lab: Lab) -> None:
     lab.send("--put", "-", given=line("u1"))
     lab.server.script = [(502, {}, {})] * 1000
-    assert (lab.send("--patience", "0.5").returncode, lab.waits()) == (3, ["000000000001.json"])
+    assert (lab.send("--patience", "0.5").returncode, lab.names()) == (3, ["000000000001"])
 
 
 def test_a_message_that_is_too_long_is_not_taken(lab: Lab) -> None:
     long = line("long")[:-1] + b" " * forms.LONGEST_MESSAGE + b"}"
     lab.send("--put", "-", given=long + b"\n" + line("u2"))
     done = lab.send("--stop-at-refusal")
-    assert (done.returncode, lab.uids(), len(lab.waits())) == (1, [], 2), done.stderr
+    assert (done.returncode, lab.uids(), len(lab.names())) == (1, [], 2), done.stderr
     done = lab.send()
-    assert (done.returncode, lab.uids(), lab.waits()) == (1, ["u2"], []), done.stderr
+    assert (done.returncode, lab.uids(), lab.names()) == (1, ["u2"], []), done.stderr
     assert b"000000000001 is faulty: LineTooLong" in done.stderr
-    assert (lab.spool / "aside/000000000001.json").read_bytes() == long
+    assert at_port.texts_in(lab.spool, "aside") == {"000000000001": long}
 
 
 def test_a_message_of_the_archive_is_done(lab: Lab) -> None:
@@ -249,7 +253,7 @@ def test_a_message_of_the_archive_is_done(lab: Lab) -> None:
     lab.send("--put", "-", given=line("u1"))
     lab.server.script = [lost, reused, clock]
     done = lab.send()
-    assert (done.returncode, lab.waits(), list((lab.spool / "aside").iterdir())) == (
+    assert (done.returncode, lab.names(), lab.names("aside")) == (
         0,
         [],
         [],
@@ -267,13 +271,13 @@ def test_a_message_of_the_archive_is_done(lab: Lab) -> None:
     for script in ([reused], [lost, reused, reused]):
         lab.send("--put", "-", given=line("u1"))
         lab.server.script = script
-        assert (lab.send().returncode, lab.waits(), len(lab.server.script)) == (1, [], 0)
+        assert (lab.send().returncode, lab.names(), len(lab.server.script)) == (1, [], 0)
     # a run before may have sent it
     lab.send("--put", "-", given=line("u1"))
     lab.server.script = [(502, {}, {})] * 100
     assert lab.send("--patience", "0.1").returncode == 3
     lab.server.script = [reused, clock]
-    assert (lab.send().returncode, lab.waits(), lab.server.script) == (0, [], [])
+    assert (lab.send().returncode, lab.names(), lab.server.script) == (0, [], [])
     # a run that stopped at it had its answer
     lab.send("--put", "-", given=line("u1"))
     for _ in range(2):
@@ -296,7 +300,7 @@ def test_a_name_that_this_spool_used_before_is_no_archive(lab: Lab) -> None:
     assert (
         done.returncode,
         len(lab.server.script),
-        len(list((lab.spool / "aside").glob("*.json"))),
+        len(lab.names("aside")),
     ) == (1, 1, 1), done.stderr
 
 
@@ -357,7 +361,7 @@ def test_again_sends_the_same_bytes(lab: Lab) -> None:
     lab.send("--follow", "-", given=line("bad1"))
     lab.server.script = [(200, {}, {"Answer": "Accepted", "Number": 1, "UniqueID": "bad1"})]
     assert lab.send("--again", "all").stdout == b"1 wait again, as 000000000002\n"
-    assert (lab.send().returncode, lab.uids(), list((lab.spool / "aside").iterdir())) == (
+    assert (lab.send().returncode, lab.uids(), lab.names("aside")) == (
         0,
         ["bad1", "bad1"],
         [],

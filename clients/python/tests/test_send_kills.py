@@ -3,6 +3,7 @@ machine and its desk.
 """
 from __future__ import annotations
 
+import json
 import pathlib
 import random
 import sys
@@ -11,7 +12,7 @@ from typing import Any
 
 import killed
 import pytest
-from at_port import SENDER
+from at_port import SENDER, texts_in
 from proxy_lab import answered, serving
 from station_site import Site
 from tracedesk_dev import shift
@@ -89,7 +90,7 @@ class Plant(killed.Run):
         return (
             self.is_written
             and self.answered() >= len(self.lines)
-            and not any((self.spool / "waiting").glob("*.json"))
+            and not self.waits()
             and not any(self.out.iterdir())
         )
 
@@ -165,6 +166,11 @@ def test_two_files_are_sent_while_the_desk_is_killed(
         run.end()
     assert (tmp_path / "answers").read_bytes() == b"".join(run.clean)
     killed.is_as_fed(program, tmp_path)
+    told = [json.loads(it) for it in run.clean]
+    aside = texts_in(tmp_path / "answers.spool", "aside").values()
+    assert [json.loads(it)["UniqueID"] for it in aside] == [
+        it["UniqueID"] for it in told if it["Answer"] == "Refused"
+    ]
 
 
 @pytest.mark.whole

@@ -10,7 +10,7 @@ from typing import Any
 
 import killed
 import pytest
-from at_port import PATIENCE, SENDER
+from at_port import PATIENCE, SENDER, rows_in, texts_in
 from proxy_lab import (
     Proxy,
     Step,
@@ -136,7 +136,9 @@ def test_a_file_without_answers_is_left_as_it_is(
 
 
 def test_the_longest_message_passes(program: pathlib.Path, tmp_path: pathlib.Path) -> None:
-    """One more byte does not, nor does a message that a proxy turns away unread."""
+    """One of one more byte has its answer without the desk, and one that a proxy turns away unread
+    ends the run.
+    """
     fits = message("PartDefined", 1, PartNumber="P1").ljust(1_048_576)
     with served(program, tmp_path) as port:
         (tmp_path / "messages").write_bytes(fits + b"\n")
@@ -146,7 +148,7 @@ def test_the_longest_message_passes(program: pathlib.Path, tmp_path: pathlib.Pat
         (tmp_path / "messages").write_bytes(
             fits + b"\n" + message("PartDefined", 2, PartNumber="P2").ljust(1_048_577) + b"\n"
         )
-        expect(sent(tmp_path, f"http://127.0.0.1:{port}"), 4, 1, "too long")
+        expect(sent(tmp_path, f"http://127.0.0.1:{port}"), 0, 2, "LineTooLong")
 
 
 def test_a_message_of_the_archive_does_not_act_again(
@@ -165,8 +167,7 @@ def test_a_message_of_the_archive_does_not_act_again(
             timeout=PATIENCE,
         )
     assert done.returncode == 3, done.stderr
-    waiting = sorted(file.name for file in (tmp_path / "spool/waiting").iterdir())
-    assert waiting == ["000000000002.json", "000000000003.json"]
+    assert list(texts_in(tmp_path / "spool", "waiting")) == ["000000000002", "000000000003"]
     for file in tmp_path.glob("desk*"):  # with its log
         file.rename(tmp_path / file.name.replace("desk", "archive"))
     begun = subprocess.run(
@@ -185,10 +186,9 @@ def test_a_message_of_the_archive_does_not_act_again(
         )
     assert done.returncode == 0, done.stderr
     assert "m-1 was accepted before the desk was begun anew" in done.stderr
-    assert not any((tmp_path / "spool/aside").iterdir())
-    lines = killed.answers_in(tmp_path / "spool")
-    assert [(line["Answer"]["Answer"], line.get("Archived")) for line in lines] == [
-        ("Accepted", None),
-        ("Refused", True),
-        ("Accepted", None),
+    query = "SELECT state, archived, json_extract(answer, '$.Answer') FROM message ORDER BY n"
+    assert rows_in(tmp_path / "spool", query) == [
+        ("sent", 0, "Accepted"),
+        ("sent", 1, "Refused"),
+        ("sent", 0, "Accepted"),
     ]

@@ -2,14 +2,18 @@
 import contextlib
 import os
 import pathlib
+import random
+import subprocess
+import sys
 import tempfile
 import threading
 from typing import Any, Callable, Iterator, Optional
 from unittest import mock
 
 import pytest
+from at_port import PATIENCE, SENDER
 
-from tracedesk import answers, disk, forms, sender, sent, spool, words
+from tracedesk import answers, disk, forms, sender, spool, words
 
 
 class Ended(BaseException):
@@ -18,24 +22,38 @@ class Ended(BaseException):
 
 @contextlib.contextmanager
 def ends_at(number: int) -> Iterator[None]:
-    """The process ends before its call of this number, of those that write, sync, rename and
-    delete.
+    """The process ends before its call of this number, of those that rename and delete files, and
+    before or behind each transaction.
     """
-    count = 0
+    count, whole = 0, spool.Spool.whole
+
+    def step() -> None:
+        nonlocal count
+        count += 1
+        if count == number:
+            raise Ended
 
     def counted(call: Callable[..., Any]) -> Callable[..., Any]:
         def inner(*given: Any, **how: Any) -> Any:
-            nonlocal count
-            count += 1
-            if count == number:
-                raise Ended
+            step()
             return call(*given, **how)
 
         return inner
 
+    @contextlib.contextmanager
+    def stepped(its: spool.Spool) -> Iterator[None]:
+        if its.database.in_transaction:
+            with whole(its):
+                yield
+            return
+        step()
+        with whole(its):
+            yield
+        step()
+
     with contextlib.ExitStack() as patched:
-        for name in ("pwrite", "fsync", "rename", "write"):
-            patched.enter_context(mock.patch.object(os, name, counted(getattr(os, name))))
+        patched.enter_context(mock.patch.object(os, "rename", counted(os.rename)))
+        patched.enter_context(mock.patch.object(spool.Spool, "whole", stepped))
         patched.enter_context(
             mock.patch.object(pathlib.Path, "unlink", counted(pathlib.Path.unlink))
         )
@@ -82,34 +100,32 @@ def lab(tmp_path: pathlib.Path) -> Lab:
 
 
 def test_order_and_numbers_outlive_the_process(lab: Lab) -> None:
+    lab.sent([b"%d" % n for n in range(5)])
     first = spool.Spool(lab.folder)
-    names = [first.put(b"%d" % n) for n in range(5)]
-    for name in names:
-        with first.sending():
-            first.done(name, accepted(1))
-    assert spool.Spool(lab.folder).put(b"5") == "000000000006"
-    os.unlink(lab.folder / ".lock")
+    assert first.put(b"5") == "000000000006"
+    first.change("DELETE FROM message")
     assert spool.Spool(lab.folder).put(b"6") == "000000000007"
-    assert lab.texts() == [b"5", b"6"]
+    assert lab.texts() == [b"6"]
 
 
-def test_damaged_files_of_its_own_hold_no_message_up(lab: Lab) -> None:
-    for number, (name, text) in enumerate(
-        (
-            (".lock", "999999999999 free\n"),
-            (".sender", "[]"),
-            (".sender", '{"Tried":null,"Again":[1]}'),
-            (".intake", '{"File":3,"First":"x","Before":null}'),
-        ),
-        1,
-    ):
-        spool.Spool(lab.folder).put(b"a")
-        (lab.folder / name).write_text(text)
-        it = spool.Spool(lab.folder)
-        assert it.put(b"b") == f"{2 * number:012}", text
-        with it.sending():
-            for one in it.names():
-                it.done(one, accepted(1))
+def test_what_is_no_spool_is_named(lab: Lab) -> None:
+    """A folder, as spools were before, with what to do; and a file of something else."""
+    with pytest.raises(disk.SpoolError, match="is a folder, and a spool is one file.*--put -"):
+        spool.Spool(lab.out)
+    (lab.out / "notes").write_text("no spool, but some text")
+    with pytest.raises(disk.SpoolError, match="can't be used as a spool"):
+        spool.Spool(lab.out / "notes")
+
+
+def test_many_make_a_spool_and_put_messages_in(lab: Lab) -> None:
+    code = (
+        "import sys; sys.path.insert(0, sys.argv[1]); from tracedesk import Spool\n"
+        "for n in range(50): Spool(sys.argv[2]).put(b'%d' % n)"
+    )
+    words = [sys.executable, "-c", code, str(SENDER.parent), str(lab.folder)]
+    running = [subprocess.Popen(words) for _ in range(4)]
+    assert [it.wait(PATIENCE) for it in running] == [0] * 4
+    assert sorted(map(int, lab.texts())) == sorted([*range(50)] * 4)
 
 
 def test_one_sends(lab: Lab) -> None:
@@ -123,57 +139,77 @@ def test_a_run_leaves_no_file_open(lab: Lab) -> None:
     def files() -> int:
         return len(os.listdir("/proc/self/fd"))
 
-    its, before = spool.Spool(lab.folder / "m1"), files()
+    before, its = files(), spool.Spool(lab.folder)
     with its.sending():
         its.done(its.put(b"{}"), accepted(1))
+    its.close()
     assert before == files()
 
 
-def test_a_put_that_ends_anywhere_is_whole_or_none(lab: Lab) -> None:
-    seen = set()
-    for number in range(1, 12):
-        with tempfile.TemporaryDirectory() as room:
-            lab.folder = pathlib.Path(room, "spool")
-            for text in (b"a", b"b"):
-                spool.Spool(lab.folder).put(text)
-            it = spool.Spool(lab.folder)
-            with contextlib.suppress(Ended), ends_at(number):
-                it.put(b"c")
-            after = lab.texts()
-            assert after in ([b"a", b"b"], [b"a", b"b", b"c"])
-            seen.add(len(after))
-            spool.Spool(lab.folder).put(b"d")
-            assert lab.texts() == after + [b"d"]
-    assert seen == {2, 3}
-
-
-def test_an_answer_that_ends_anywhere_is_made_good(lab: Lab) -> None:
+def test_an_answer_that_ends_anywhere_is_there_with_all_that_follows(lab: Lab) -> None:
+    """The record too, which is made once."""
+    text = b'{"MessageName":"TraceDesk.WorkStarted"}'
     for answer in (accepted(1), refused()):
-        for number in range(1, 22):
-            with tempfile.TemporaryDirectory() as room:
-                lab.folder = pathlib.Path(room, "spool")
-                it = spool.Spool(lab.folder)
-                name = it.put(b"a")
-                it.put(b"b")
-                with contextlib.suppress(Ended), ends_at(number):
-                    with it.sending():
-                        it.done(name, answer)
-                after = spool.Spool(lab.folder)
-                with after.sending():
-                    if after.names()[0] == name:  # the answer is not on disk: it is asked for again
-                        assert not any(it.read_bytes() for it in after.answered.iterdir())
-                        assert after.is_tried(name) or number < 4
-                        after.done(name, answer)
-                lines = b"".join(it.read_bytes() for it in after.answered.iterdir()).splitlines()
-                assert len(lines) == 1
-                assert lab.texts() == [b"b"]
-                assert after.set_aside() == ([] if answers.is_taken(answer) else [name])
+        for number in range(1, 9):
+            lab.folder = lab.room / f"{type(answer).__name__}{number}"
+            it, is_ended = spool.Spool(lab.folder), False
+            name, behind = it.put(text), it.put(b"b")
+            try:
+                with it.sending(), ends_at(number):
+                    it.take(name)
+                    it.done(name, answer)
+            except Ended:
+                is_ended = True
+            after = spool.Spool(lab.folder)
+            with after.sending():
+                if after.names()[0] == name:  # it is sent again
+                    assert is_ended and (after.is_tried(name) or number < 2)
+                    after.done(name, answer)
+            assert lab.texts() == [b"b"] and after.names() == [behind]
+            taken = answers.is_taken(answer)
+            assert len(after.made()) == (not taken)
+            assert after.names("sent" if taken else "aside") == [name]
+    assert not is_ended
+
+
+def test_kills_lose_nothing_and_each_second_try_is_known(lab: Lab) -> None:
+    """Processes that put messages in, and that send, are killed at random moments."""
+    head = (
+        "import sys; sys.path.insert(0, sys.argv[1]); from tracedesk import Spool, answers\n"
+        "s, n = Spool(sys.argv[2]), int(sys.argv[3]); print(flush=True)\n"
+    )
+    puts = head + "while True: s.put(b'%d' % n); print(n, flush=True); n += 1"
+    sends = head + (
+        "with s.sending():\n  for it in s.names():\n    text, tried = s.take(it)\n"
+        "    print(it, text.decode(), int(tried), flush=True); s.done(it, answers.LINE_TOO_LONG)"
+    )
+    chance, kept, sent, n = random.Random(1), [], [], 0  # type: Any, list[int], list[Any], int
+
+    def run(code: str, seconds: float) -> list[Any]:
+        words = [sys.executable, "-c", code, str(SENDER.parent), str(lab.folder), str(n)]
+        with subprocess.Popen(words, stdout=subprocess.PIPE) as process:
+            assert process.stdout
+            process.stdout.readline()  # it begins
+            with contextlib.suppress(subprocess.TimeoutExpired):
+                process.wait(seconds)
+            process.kill()
+            return [it.split() for it in process.stdout.read().splitlines(True) if it[-1:] == b"\n"]
+
+    for _ in range(8):
+        kept += [int(it) for (it,) in run(puts, chance.random() / 5)]
+        n = kept[-1] + 2 if kept else 0  # one more may be there
+        sent += run(sends, chance.random() / 5)
+    sent += run(sends, PATIENCE)
+    assert kept and set(kept) <= {int(text) for _, text, _ in sent}
+    assert [it[0] for it in sent] == sorted(it[0] for it in sent)
+    again = [after for before, after in zip(sent, sent[1:]) if before[0] == after[0]]
+    assert all(tried == b"1" for _, _, tried in again)
 
 
 def test_a_file_that_is_taken_in_anywhere_is_in_once(lab: Lab) -> None:
     ended = 0
-    for number in range(1, 60):
-        with tempfile.TemporaryDirectory() as room:
+    for number in range(1, 20):
+        with tempfile.TemporaryDirectory() as room, mock.patch.object(spool, "AT_ONCE", 2):
             lab.folder, lab.out = pathlib.Path(room, "spool"), pathlib.Path(room, "out")
             lab.out.mkdir()
             file = lab.out / "1.jsonl"
@@ -195,7 +231,7 @@ def test_a_file_that_is_taken_in_anywhere_is_in_once(lab: Lab) -> None:
             it.look()
             assert [line for line in lab.texts() if line != b"x"] == [b"a", b"b", b"c"] * 2, number
             assert list(lab.out.iterdir()) == []
-    assert ended > 15
+    assert ended > 7
 
 
 def test_set_aside_and_again(lab: Lab) -> None:
@@ -203,9 +239,9 @@ def test_set_aside_and_again(lab: Lab) -> None:
     name = it.put(words.ClockSet().message("S", unique_id="u-1"))
     with it.sending():
         it.done(name, refused())
-    assert "Expired at K" in (it.aside / f"{name}.why").read_text()
+    assert "Expired at K" in it.kept(name).why
     assert it.again([name]) == ["000000000002"]
-    assert (list(it.aside.iterdir()), len(it.names())) == ([], 1)
+    assert (it.names("aside"), it.names("dropped"), len(it.names())) == ([], [name], 1)
     with pytest.raises(disk.SpoolError):
         it.again(["../x"])
 
@@ -227,95 +263,73 @@ def test_a_look_that_fails_ends_no_follower(lab: Lab) -> None:
     assert [it.split(".")[0] for it in told] == ["no memory", "no disk"]
 
 
-def test_a_line_longer_than_memory_should_hold_is_read_in_pieces(lab: Lab) -> None:
+def test_of_a_line_that_is_far_too_long_the_beginning_is_kept(lab: Lab) -> None:
     place, size = lab.out / "1.jsonl", 3 * forms.LONGEST_MESSAGE
-    place.write_bytes(b"a\n" + b"x" * size + b"\nb\n \n" + b"y" * size)
-    it = spool.Spool(lab.folder)
-    with open(place, "rb") as file:
-        assert [b"a", b"x" * size, b"b", b"y" * size] == [
-            line if isinstance(line, bytes) else b"".join(line) for line in disk.lines_of(file)
-        ]
-    with open(place, "rb") as file:
-        assert [bytes, None, bytes, None] == [
-            bytes if isinstance(line, bytes) else None for line in disk.lines_of(file)
-        ]
-    assert it.take_file(place) == 4
-    assert [len(text) for text in lab.texts()] == [1, size, 1, size]
-
-
-def test_stray_files_and_a_wrong_clock_lose_nothing(lab: Lab) -> None:
-    it = spool.Spool(lab.folder)
-    names = [it.put(b"%d" % n) for n in range(3)]
-    for stray in ("zzz.jsonl", "notes.txt", "9999-99-99.jsonl.gz"):
-        (it.answered / stray).write_bytes(b"no answer\n")
-    (it.answered / "9999-12-31.jsonl").write_bytes(b"[]\n")
-    (it.answered / "9999-12-30.jsonl").mkdir()
-    for name, day in zip(names, ("2026-03-02", "2099-03-02", "2026-03-03")):
-        with it.sending(), mock.patch("tracedesk.spool.datetime.date") as date:
-            date.today.return_value = day
-            it.keep_answer(name, accepted(1))  # it ends here
-        it = spool.Spool(lab.folder)
-    with it.sending():
-        assert (it.names(), (it.answered / "zzz.jsonl").read_bytes()) == ([], b"no answer\n")
-    assert [
-        (it.answered / f"{day}.jsonl").read_bytes().count(b"\n")
-        for day in ("2026-03-02", "2099-03-02", "2026-03-03")
-    ] == [1, 1, 1]
+    place.write_bytes(b"a\n" + b"x" * size + b"\nb\n \n" + b"y" * 2 * size)
+    with mock.patch.object(disk, "LONGEST_LINE", size + 2):
+        assert spool.Spool(lab.folder).take_file(place) == 4
+    texts = lab.texts()
+    assert texts[:3] == [b"a", b"x" * size, b"b"]
+    assert set(texts[3]) == set(b"y") and forms.LONGEST_MESSAGE < len(texts[3]) <= size + 2
 
 
 def test_sent_messages_go_again_in_front(lab: Lab) -> None:
     it = lab.sent([b"a", b"b"])
-    began = (it.sent / "000000000002.json").stat().st_ctime
+    ((began,),) = it.rows("SELECT answered FROM message WHERE n = 2")
     lab.sent([b"bad"], refused())
     lab.sent([b"c"])
     it.put(b"d")
-    for number in range(1, 30):  # ended anywhere, and gone on with
+    for number in range(1, 4):  # ended anywhere, and gone on with
         with contextlib.suppress(Ended), ends_at(number):
             it.again_since(began)
-        with (it := spool.Spool(lab.folder)).sending():
-            pass
-        assert lab.texts() in ([b"d"], [b"b", b"c", b"d"])
-        if number % 3 and len(it.names()) == 3:
-            with it.sending():
-                assert [it.is_tried(name) for name in it.names()[:2]] == [True, True]
-                for name in it.names()[:2]:
-                    it.done(name, accepted(1))
+        assert lab.texts() == ([b"d"] if number == 1 else [b"b", b"c", b"d"])
+        its = it.names()[:-1]
+        assert [it.is_tried(name) for name in its] == [True] * len(its)
+        for name in its:
+            it.done(name, accepted(1))
     assert it.again_since(began) == ["000000000002", "000000000004"]
-    assert lab.texts() == [b"b", b"c", b"d"]
     with it.sending(), pytest.raises(disk.SpoolError):
         spool.Spool(lab.folder).again_since(0)
 
 
-def test_an_old_answer_takes_no_message_that_goes_again(lab: Lab) -> None:
-    """A sender that ends before its first new answer sends the last message all the same."""
-    it = lab.sent([b"a", b"b"])
-    for number in range(1, 20):
-        it.again_since(0)
-        with contextlib.suppress(Ended), ends_at(number), it.sending():
-            it.done("000000000001", accepted(1))
-        with (it := spool.Spool(lab.folder)).sending():
-            assert lab.texts()[-1:] == [b"b"], number
-            for name in it.names():
-                it.done(name, accepted(1))
-
-
-def test_sent_messages_are_kept_by_age_and_size() -> None:
+def test_sent_messages_are_kept_by_age_and_size(lab: Lab) -> None:
     for days, most, always, wanted in (
         (9, 1 << 20, 0, 5),
-        (9, 2 * sent.BLOCK, 0, 2),
-        (0, 1 << 20, 0, 1),
-        (0, 1 << 20, 1 << 20, 5),
+        (9, 200, 0, 2),
+        (-1, 1 << 20, 0, 1),
+        (-1, 1 << 20, 1 << 20, 5),
         (9, 0, 0, 1),
     ):
-        with mock.patch.object(sent, "ALWAYS_KEPT", always), tempfile.TemporaryDirectory() as room:
-            it = spool.Spool(pathlib.Path(room, "spool"), days, most)
-            for number in range(5):
-                name = it.put(b"%d" % number)
+        with mock.patch.object(spool, "ALWAYS_KEPT", always):
+            it = spool.Spool(lab.room / f"{days} {most} {always}", days, most)
+            for number in range(6):
+                name = it.put(b"%d" % number * 100)
                 with it.sending():
                     it.done(name, refused() if number == 2 else accepted(1))
-            kept = sorted(file.name for file in it.sent.iterdir())
-            assert (len(kept), kept[-1]) == (wanted, "000000000005.json")
-            assert it.kept.dropped_early == (5 - wanted if days else 0)
+            it.forget()
+            kept = it.names("sent")
+            assert (len(kept), kept[-1], it.names("aside")) == (
+                wanted,
+                "000000000006",
+                ["000000000003"],
+            )
+            assert it.dropped_early == (5 - wanted if days > 0 else 0)
+
+
+def test_a_lease_is_renewed_and_ends(lab: Lab) -> None:
+    """One of another start of this machine has ended."""
+    it = spool.Spool(lab.folder)
+    it.renew("program")
+    at = it.feeders()["program"]
+    it.renew("program")
+    assert it.feeders() == {"program": at} and spool.clock() - at < PATIENCE
+    with mock.patch.object(spool, "clock", lambda: at + spool.RENEWED):
+        it.renew("program")
+    assert it.feeders() == {"program": at + spool.RENEWED}
+    it.change("UPDATE feeder SET ahead = ahead - 100")
+    assert it.feeders() == {"program": -float("inf")}
+    it.release("program")
+    assert it.feeders() == {}
 
 
 def test_only_whole_files_are_taken(lab: Lab) -> None:

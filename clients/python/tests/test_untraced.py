@@ -4,7 +4,6 @@ import hashlib
 import json
 import pathlib
 import subprocess
-import tempfile
 from typing import Any, Iterator, Optional
 
 import at_port
@@ -47,6 +46,10 @@ class UntracedLab(sending.Lab):
 
     def records(self, folder: Optional[pathlib.Path] = None) -> list[Any]:
         return [json.loads(it.read_bytes()) for it in sorted((folder or self.inbox).iterdir())]
+
+    def kept(self) -> int:
+        """How many records the spool has, which aren't handed on."""
+        return len(at_port.rows_in(self.spool, "SELECT * FROM record"))
 
     def refuse(self, *more: Any) -> "subprocess.CompletedProcess[bytes]":
         """Two boards are worked although the reel has expired, and then a part is defined twice."""
@@ -123,12 +126,12 @@ def test_a_refused_reel_is_recorded_and_may_be_sent_again(lab: UntracedLab) -> N
     assert {it["Message"]["UniqueID"] for it in lab.records()} == {"bad1", "bad2"}
     assert json.loads((lab.status / "m1.json").read_text())["Machines"]["M1"]["LastRefused"] == None
     assert lab.send("--again", "all").returncode == 0
-    assert len(lab.waits()) == 3
+    assert len(lab.names()) == 3
 
 
 def test_a_person_decides(lab: UntracedLab) -> None:
     lab.refuse()
-    assert len(lab.records(lab.spool / "untraced")) == 4
+    assert lab.kept() == 4
     for words in (["--by", "A"], ["--reason", "x"], ["--by", " ", "--reason", "x"]):
         assert lab.send("--again", "000000000001", *words).returncode == 2
     decide = [
@@ -152,13 +155,13 @@ def test_a_person_decides(lab: UntracedLab) -> None:
     code = done.stderr.split(b"--seen ")[1].split()[0].decode()
     lab.server.slots = SLOTS.replace("500", "499")
     done = lab.send(*decide, "--seen", code)
-    assert (done.returncode, b"has changed" in done.stderr, lab.waits()) == (6, True, [])
+    assert (done.returncode, b"has changed" in done.stderr, lab.names()) == (6, True, [])
     code = done.stderr.split(b"--seen ")[1].split()[0].decode()
     lab.server.came.clear()
     done = lab.send(*decide, "--seen", code)
-    assert (done.returncode, len(lab.waits())) == (0, 1), done
+    assert (done.returncode, len(lab.names())) == (0, 1), done
     lab.send("--untraced", lab.inbox)
-    assert (lab.uids(), list((lab.spool / "untraced").iterdir())) == (["bad1"], [])
+    assert (lab.uids(), lab.kept()) == (["bad1"], 0)
     decided = lab.records(lab.room / "decided")
     assert [(it["Became"], it["By"], it["Reason"]) for it in decided] == [
         ("sent again", "A. Person", "the splice was late")
@@ -166,29 +169,18 @@ def test_a_person_decides(lab: UntracedLab) -> None:
     assert (lab.inbox / f"{decided[0]['Of']}.json").exists()
 
 
-def test_what_an_older_version_set_aside_is_recorded(lab: UntracedLab) -> None:
-    lab.refuse()
-    for it in (lab.spool / "untraced").iterdir():
-        it.unlink()
-    for it in (lab.spool / "aside").glob("*.why"):
-        it.write_text("".join(it.read_text().splitlines(True)[:2]))
-    for _ in range(2):
-        assert lab.send("--untraced", lab.inbox).returncode == 0
-        assert len(lab.records()) == 4
-
-
 def test_records_go_to_the_proxy(lab: UntracedLab) -> None:
     url = f"http://127.0.0.1:{lab.server.server_address[1]}/line/"
     lab.refuse("--untraced", url + "untraced", "--status", url + "status/", "--name", "m1")
     assert (
         sorted(it.split("/")[2] for it in lab.server.put),
-        list((lab.spool / "untraced").iterdir()),
-    ) == (["status"] + ["untraced"] * 4, [])
+        lab.kept(),
+    ) == (["status"] + ["untraced"] * 4, 0)
 
 
 def test_a_run_that_stops_sends_no_report_again(lab: UntracedLab) -> None:
     lab.send("--put", "-", given=work("bad1") + b"\n" + sending.line("u2"))
-    assert (lab.send("--stop-at-refusal").returncode, lab.waits()) == (1, ["000000000002.json"])
+    assert (lab.send("--stop-at-refusal").returncode, lab.names()) == (1, ["000000000002"])
     assert (lab.send("--stop-at-refusal").returncode, lab.uids()) == (0, ["bad1", "u2"])
     messages, known = lab.room / "messages", lab.room / "answers"
     messages.write_bytes(work("bad3") + b"\n" + sending.line("u4"))
@@ -213,30 +205,37 @@ def test_after_a_restore_nothing_that_was_refused_is_sent(lab: UntracedLab) -> N
     ) == (0, 0, ["u1", "u3"])
 
 
-def test_a_kill_at_any_call_leaves_one_record(lab: UntracedLab) -> None:
-    refused = test_spool.answer(
-        b'{"Answer":"Refused","At":"K","Refusal":"Expired","UniqueID":"bad1"}'
-    )
-    for number in range(1, 40):
-        with tempfile.TemporaryDirectory() as room:
-            it = spool.Spool(pathlib.Path(room, "spool"), name="m1")
-            name = it.put(work("bad1"))
-            is_ended = False
-            with it.sending():
-                try:
-                    with test_spool.ends_at(number):
-                        it.done(name, refused, "2026-03-02T06:00:09Z")
-                except test_spool.Ended:
-                    is_ended = True
-            after = spool.Spool(pathlib.Path(room, "spool"), name="m1")
-            with after.sending():
-                if after.names():  # the answer was not kept: it comes again, at another time
-                    assert is_ended
-                    after.done(name, refused, "2026-03-02T06:00:30Z")
-            assert (len(lab.records(after.untraced)), after.set_aside()) == (1, [name]), number
-            if not is_ended:
-                return
-    raise AssertionError("more calls than expected")
+def test_two_files_keep_what_a_spool_keeps(lab: UntracedLab) -> None:
+    """A refused report, and a reel that the machine names otherwise; also where the run was killed
+    between an answer and its record.
+    """
+    messages, known = lab.room / "messages", lab.room / "answers"
+    install = work("u2", "MaterialsInstalled", Designators=["C1"], MachineReels=["K-9"])
+    messages.write_bytes(b"\n".join([work("bad1"), install, sending.line("u3")]))
+    reels = {"Answer": "Accepted", "Number": 2, "Reels": ["K-1"], "UniqueID": "u2"}
+    refused = {"Answer": "Refused", "At": "P", "Refusal": "PartExists", "UniqueID": "bad1"}
+    lab.server.script = [(409, {}, refused), (200, {}, reels)]
+    assert lab.two_files(messages, known).returncode == 0
+    its = spool.Spool(f"{known}.spool")
+    before = its.made()
+    assert sorted(json.loads(text)["Kind"] for _, text in before) == ["differs", "refused"]
+    assert its.names("aside") == ["000000000001"]
+    its.change("DELETE FROM record WHERE text LIKE '%differs%'")
+    its.change("UPDATE message SET state = 'waiting', answer = NULL WHERE n = 2")
+    its.close()
+    known.write_bytes(b"".join(known.read_bytes().splitlines(True)[:2]))
+    assert lab.two_files("--untraced", lab.inbox, messages, known).returncode == 0
+    assert lab.uids() == ["bad1", "u2", "u3", "u3"]
+    assert sorted(it["Kind"] for it in lab.records()) == ["differs", "refused"]
+    made = {f"{id_}.json" for id_, text in before if b"differs" in text}
+    assert made < {it.name for it in lab.inbox.iterdir()}
+
+
+def test_two_files_leave_no_spool_where_nothing_is_left_to_do(lab: UntracedLab) -> None:
+    messages, known = lab.room / "messages", lab.room / "answers"
+    messages.write_bytes(sending.line("u1"))
+    assert lab.two_files(messages, known).returncode == 0
+    assert sorted(it.name for it in lab.room.glob("answers*")) == ["answers"]
 
 
 UNREADABLE = {
@@ -263,8 +262,8 @@ def test_a_report_that_nobody_can_read_is_recorded(what: str, tmp_path: pathlib.
     faulty = test_spool.answer(b'{"Answer":"Faulty","Fault":"NotJson"}')
     with it.sending():
         it.done(it.put(text), faulty, "2026-03-02T06:00:09Z")
-    (path,) = it.untraced.iterdir()
-    made = json.loads(path.read_bytes(), parse_constant=lambda text: pytest.fail(text))
+    ((_, its),) = it.made()
+    made = json.loads(its, parse_constant=lambda text: pytest.fail(text))
     assert base64.b64decode(made["Raw"]) == text
     assert isinstance(made["Message"], dict)
     board = made["Message"].get("MessageBody", {}).get("Board", "")
@@ -278,9 +277,9 @@ def test_a_report_that_is_too_long_has_a_record_that_is_not(tmp_path: pathlib.Pa
     it, text = spool.Spool(tmp_path / "spool"), work("u1", Designators=["C1"] * 420_000)
     with it.sending():
         it.done(it.put(text), answers.LINE_TOO_LONG, "2026-03-02T06:00:09Z")
-    (path,) = it.untraced.iterdir()
-    made = json.loads(path.read_bytes())
-    assert path.stat().st_size < 100_000
+    ((_, its),) = it.made()
+    made = json.loads(its)
+    assert len(its) < 100_000
     assert (made["Size"], made["Sha256"]) == (len(text), hashlib.sha256(text).hexdigest())
     assert made["Message"]["MessageBody"]["Board"] == "B1"
 
@@ -308,5 +307,5 @@ def test_one_record_that_is_not_taken_holds_no_other_up(tmp_path: pathlib.Path) 
     to = desk.Desk("http://127.0.0.1:1")
     untraced.Line(it, to, interlock.Interlock(it, []), inbox, None, told.append).look()
     assert len(inbox.names) == 8
-    assert sorted(path.stem[-1] for path in it.untraced.iterdir()) == ["5", "f"]
+    assert [id_[-1] for id_, _ in it.made()] == ["5", "f"]
     assert "2 records, the first" in told[0]

@@ -8,7 +8,7 @@ from unittest import mock
 import pytest
 from interlock_line import Line
 
-from tracedesk import answers, disk, sender, witness
+from tracedesk import answers, sender, spool, witness
 
 SPLICE = (
     b'{"MessageName":"TraceDesk.MaterialsSpliced","UniqueID":"t1","Source":"tablet",'
@@ -49,8 +49,8 @@ def installed(line: Line, reels: Any, *names: str) -> str:
     its = sender.Sender(line.spool, line.desk, interlock=line.states)
     with mock.patch.object(line.desk, "hasty", side_effect=OSError):
         found = its.compare(told, answer)
-        line.states.judged(disk.spelled(line.names), told, answer)
-        for shown in found:
+        line.states.judged(spool.spelled(line.names), told, answer)
+        for _, _, shown in found:
             line.states.differ("M1", witness.looked_up(line.desk, shown))
         return line.states.state("M1").word
 

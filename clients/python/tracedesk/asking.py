@@ -10,8 +10,9 @@ from typing import Any, Dict, List, Optional
 
 from . import answers, witness, words
 from .desk import Desk, NotThere
-from .interlock import Interlock, clock
+from .interlock import Interlock
 from .machine import Fault
+from .spool import clock
 
 # begins the UniqueIDs of questions, by which the proxy keeps them out of its list
 ASKS = "tracedesk-send asks"

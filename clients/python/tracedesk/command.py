@@ -12,7 +12,8 @@ import threading
 import time
 from typing import Callable, List, Optional
 
-from .interlock import Interlock, State, clock
+from .interlock import Interlock, State
+from .spool import clock
 
 LONGEST_CALL = 2.0  # seconds that a call may take
 SHORT, OFTEN = 0.01, 0.05  # seconds between two looks: at a call that runs, and at a state
@@ -121,6 +122,7 @@ class Command:
         disk_at = 0.0
         while not self.states.ended:
             with contextlib.suppress(Exception):
+                self.states.look_at_feeders()
                 self.states.look_ahead(self.states.spool.names())
                 if clock() >= disk_at:
                     disk_at = clock() + self.states.every

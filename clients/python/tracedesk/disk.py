@@ -3,17 +3,15 @@ their names.
 """
 from __future__ import annotations
 
-import collections
 import contextlib
 import fcntl
 import os
 import pathlib
-import re
-from typing import BinaryIO, Iterable, Iterator, List, Optional, Union
+from typing import BinaryIO, Iterator, List, Optional
 
 from . import forms
 
-NAME = re.compile(r"(\d{12})\.json")
+LONGEST_LINE = 64 << 20  # bytes of a line that are kept; none of a message that a desk takes
 
 
 class SpoolError(Exception):
@@ -28,17 +26,12 @@ def sync_folder(path: pathlib.Path) -> None:
         os.close(handle)
 
 
-def write_synced(
-    path: pathlib.Path, text: Union[bytes, Iterable[bytes]], mode: Optional[int] = None
-) -> None:
-    """Puts a file of this text, or of its pieces, at its place, whole; it is on disk once its
-    folder is synced.
-    """
+def write_synced(path: pathlib.Path, text: bytes, mode: Optional[int] = None) -> None:
+    """Puts a file of this text at its place, whole; it is on disk once its folder is synced."""
     beside = path.with_name(f".{path.name}.new")
     try:
         with open(beside, "wb") as file:
-            for piece in [text] if isinstance(text, bytes) else text:
-                file.write(piece)
+            file.write(text)
             file.flush()
             if mode is not None:
                 os.fchmod(file.fileno(), mode)
@@ -50,44 +43,38 @@ def write_synced(
         raise
 
 
-def lock_alone(handle: int, place: object, why: str) -> None:
+def lock_alone(handle: int, why: str) -> None:
     """Locks an open file or folder; a SpoolError if another process has it."""
     try:
         fcntl.flock(handle, fcntl.LOCK_EX | fcntl.LOCK_NB)
     except BlockingIOError:
-        raise SpoolError(f"{place}: another {why}") from None
+        raise SpoolError(why) from None
 
 
-def spelled(number: int) -> str:
-    return f"{number:012}"
+@contextlib.contextmanager
+def locked(path: pathlib.Path, why: str) -> Iterator[None]:
+    """Holds a file that is there to be locked."""
+    handle = os.open(path, os.O_RDWR | os.O_CREAT, 0o600)
+    try:
+        lock_alone(handle, why)
+        yield
+    finally:
+        os.close(handle)
 
 
-def names_in(folder: pathlib.Path) -> List[str]:
-    """The names of the messages in a folder, in their order."""
-    return sorted(found[1] for name in os.listdir(folder) if (found := NAME.fullmatch(name)))
-
-
-def lines_of(stream: BinaryIO) -> Iterator[Union[bytes, Iterator[bytes]]]:
-    """The messages of a stream: its lines, without those of spaces alone. A line longer than any
-    message comes in pieces.
+def lines_of(stream: BinaryIO) -> Iterator[bytes]:
+    """The messages of a stream: its lines, without those of spaces alone. Of a line that is longer
+    than any message by far the beginning is kept.
     """
     most = forms.LONGEST_MESSAGE + 2
     while line := stream.readline(most):
-        if len(line) < most or line.endswith(b"\n"):
-            if line.strip():
-                yield line.rstrip(b"\r\n")
-        else:
-            pieces = iter(lambda: stream.readline(most), b"")
-            whole = long_line(line, pieces)
-            yield whole
-            collections.deque(whole, 0)  # what the caller has not read of it
-
-
-def long_line(first: bytes, pieces: Iterator[bytes]) -> Iterator[bytes]:
-    piece: Optional[bytes] = first
-    while piece:
-        yield piece.rstrip(b"\r\n") if piece.endswith(b"\n") else piece
-        piece = None if piece.endswith(b"\n") else next(pieces, None)
+        pieces, size = [line], len(line)
+        while not pieces[-1].endswith(b"\n") and (piece := stream.readline(most)):
+            size += len(piece)
+            pieces = [*pieces, piece] if size <= LONGEST_LINE else [*pieces[:-1], piece]
+        whole = b"".join(pieces)
+        if whole.strip():
+            yield whole.rstrip(b"\r\n")
 
 
 def files_in(folder: pathlib.Path) -> List[pathlib.Path]:

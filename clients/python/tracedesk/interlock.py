@@ -5,17 +5,18 @@ from __future__ import annotations
 
 import contextlib
 import dataclasses
-import json
 import socket
+import sqlite3
 import threading
 import time
 from typing import Any, Dict, Iterator, List, Optional
 
 from . import answers, words
-from .disk import SpoolError, write_synced
+from .disk import SpoolError
 from .machine import Fault, Machine, idle, minute_of, no_slot
 from .records import utc
 from .spool import Spool
+from .spool import clock as clock  # by which tests let time pass
 
 EVERY = (
     2.0  # seconds between two questions, and two calls of the plant's command with the same state
@@ -31,11 +32,6 @@ OF_NOTHING = {it.WORD for it in words.MESSAGES} - OF_A_MACHINE
 UNREAD = no_slot("?")  # the place of the fault of a scan that nobody can read
 # refusals of a start that name a slot
 AT_A_SLOT = ("SlotEmpty", "WrongPart", "NotBaked", "Expired")
-
-
-def clock() -> float:
-    """Seconds, also those of a suspend."""
-    return time.clock_gettime(time.CLOCK_BOOTTIME)
 
 
 def cut(known: Dict[str, Any]) -> None:
@@ -60,6 +56,8 @@ class Interlock:
         self.spool, self.silence, self.is_used = spool, silence, is_used
         self.every = min(every, silence / 2)
         self.lock, self.changed = threading.RLock(), threading.Event()
+        self.keeps = threading.Lock()
+        self.feeders: Dict[str, float] = {}  # who feeds the spool, and when he said that he lives
         self.machines = {name: Machine() for name in machines}
         self.listed, self.seen = list(machines), 0
         self.waits: Dict[str, float] = {}  # what waits, and since when that is known
@@ -84,21 +82,20 @@ class Interlock:
 
     # --- What outlives the sender: faults, and the slots of sheets
 
-    @property
-    def kept_at(self) -> Any:
-        return self.spool.folder / ".machines"
-
     def take_kept(self) -> None:
-        with contextlib.suppress(OSError, ValueError, KeyError, TypeError, AttributeError):
-            told = json.loads(self.kept_at.read_bytes())
+        if told := self.spool.recall("machines"):
             for name, it in told["Machines"].items():
-                self.of(name).take_kept(it, int(told.get("Batches", 0)))
+                self.of(name).take_kept(it, int(told["Batches"]))
             self.greatest, self.scan_place = int(told["Greatest"]), told["Scans"]
-            self.accepted = int(told.get("Accepted", 0))
+            self.accepted = int(told["Accepted"])
 
     def keep(self) -> None:
-        """Keeps it. A disk that takes nothing stops the machines, and is told elsewhere."""
-        if self.is_used:
+        """Keeps it, one thread at a time, so that what is newer is kept last. A disk that takes
+        nothing stops the machines, and is told elsewhere.
+        """
+        if not self.is_used:
+            return
+        with self.keeps:
             with self.lock:
                 machines = {name: it.kept() for name, it in self.machines.items()}
                 told = {
@@ -108,8 +105,8 @@ class Interlock:
                     "Scans": self.scan_place,
                     "Machines": machines,
                 }
-            with contextlib.suppress(OSError):
-                write_synced(self.kept_at, json.dumps(told).encode())
+            with contextlib.suppress(sqlite3.Error):
+                self.spool.remember("machines", told)
 
     # --- One sender has a machine
 
@@ -145,21 +142,12 @@ class Interlock:
             if int(name) <= self.seen:
                 continue
             self.seen = int(name)
-            try:
-                told = self.spool.message(name)
-            except OSError:
-                continue
+            told = self.spool.message(name)
             if answers.word_of(told) == "WorkStarted":
                 with self.lock:
                     for it in self.meant(told, answers.LINE_TOO_LONG):
                         it.start = name
                 self.news()
-
-    def gone(self, name: str) -> None:
-        """A message that waited isn't there any more."""
-        with self.lock:
-            for it in self.machines.values():
-                it.start = None if it.start == name else it.start
 
     def meant(self, told: Dict[str, Any], answer: answers.Answer) -> List[Machine]:
         """The machines that a message is about. One that the desk can't read may be about any."""
@@ -410,7 +398,23 @@ class Interlock:
         oldest = next(iter(self.waits.values()), now)
         if now - oldest > self.silence:
             return Fault("waiting", f"a message waits: {silent}")
-        return None
+        return self.unheard(now)
+
+    def unheard(self, now: float) -> Optional[Fault]:
+        """What is wrong with who feeds the spool: the machine isn't heard while he is dead."""
+        if not self.feeders:
+            return Fault("silent", "nobody feeds the spool: start the machine's bridge or program")
+        name, at = min(self.feeders.items(), key=lambda it: it[1])
+        if now - at <= self.silence:
+            return None
+        return Fault(
+            "silent",
+            f"the machine isn't heard: {name} doesn't run. Start it, or give it up by --release",
+        )
+
+    def look_at_feeders(self) -> None:
+        """Sees who feeds the spool, and when he said last that he lives."""
+        self.feeders = self.spool.feeders()
 
     def state(self, name: str) -> "State":
         """The state of a machine now. Once the sender ends it takes no lock."""
@@ -456,10 +460,10 @@ class Interlock:
     def look_at_disk(self) -> None:
         """A disk that takes nothing stops the machines: no start of theirs could be kept."""
         try:
-            write_synced(self.spool.folder / ".interlock", b"x" * 4096)
+            self.spool.remember("disk", utc())
             self.disk = ""
-        except OSError as fault:
-            self.disk = f"the spool can't be written: {fault.strerror}"
+        except sqlite3.Error as fault:
+            self.disk = f"the spool can't be written: {fault}"
 
 
 @dataclasses.dataclass

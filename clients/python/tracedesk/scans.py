@@ -17,8 +17,8 @@ from typing import Any, Callable, Dict, List, Optional, Tuple
 from . import answers, records
 from .console import NEWS_OF_A_FAULT
 from .desk import Desk
-from .interlock import Interlock, clock
-from .sent import KEPT_DAYS
+from .interlock import Interlock
+from .spool import KEPT_DAYS, clock
 
 NAME = re.compile(r"\d{4}-\d\d-\d\d\.jsonl")
 OFTEN = 0.5  # seconds between two looks

@@ -2,11 +2,13 @@
 acts twice.
 
 usage: tracedesk-send [--url URL] [WHO] [HOW] MESSAGES ANSWERS
-       tracedesk-send [--url URL] [WHO] [HOW] --spool FOLDER [--follow FOLDER | --follow - | --stay]
-       tracedesk-send --spool FOLDER --put MESSAGES | --put -
-       tracedesk-send --spool FOLDER --again all | --again NAME .. | --again TIME
-       tracedesk-send --spool FOLDER [--url URL] [WHO] --again NAME --by PERSON --reason TEXT
+       tracedesk-send [--url URL] [WHO] [HOW] --spool FILE [--follow FOLDER | --follow - | --stay]
+       tracedesk-send --spool FILE --put MESSAGES | --put -
+       tracedesk-send --spool FILE --list STATE | --show NAME .. | --show STATE
+       tracedesk-send --spool FILE --again all | --again NAME .. | --again TIME | --drop NAME ..
+       tracedesk-send --spool FILE [--url URL] [WHO] --again NAME --by PERSON --reason TEXT
        [--seen CODE]
+       tracedesk-send --spool FILE --release FEEDER ..
        tracedesk-send [--url URL] [WHO] --check
        tracedesk-send --validate MESSAGES | --version
 
@@ -27,11 +29,12 @@ examples:
   tracedesk-send --validate first.jsonl
 
 With two files it posts the lines of MESSAGES, each with the UniqueID in it, and adds the desk's
-answers to ANSWERS. Started again, it goes on behind the last whole line of ANSWERS.
+answers to ANSWERS. Started again, it goes on behind the last whole line of ANSWERS. It does so by a
+spool, ANSWERS.spool, which stays if something in it is left for a person.
 
-With --spool it sends what waits in that folder, and each message is on disk there before it is
-sent. Started again after whatever ended it, it goes on where it was. One sender has a spool at a
-time; any number may put messages in.
+With --spool it sends what waits in that file, and each message is on disk there before it is sent.
+Started again after whatever ended it, it goes on where it was. One sender has a spool at a time;
+any number may put messages in. The file is on a disk of this computer.
 --follow FOLDER  takes in the files *.json and *.jsonl of FOLDER, by their names, a message a line,
                  and deletes each once it is in the spool. Write a file under another ending and
                  rename it, so that it appears whole. A name may be used again at any time
@@ -39,6 +42,10 @@ time; any number may put messages in.
                  disk
 --stay           goes on when nothing waits, for programs that put messages in
 --put            puts lines into the spool and sends nothing
+--list STATE     lists the messages that are waiting, sent, aside or dropped, or all, a line of JSON
+                 each with the answer, and why one was set aside
+--show NAME      prints messages as they are, or those of a STATE
+--drop NAME      is done with messages that were set aside
 --again          puts requests that were set aside behind those that wait, once the fault is mended.
                  A report of work is about the past, so it is judged by the reels of its time or not
                  at all: it is listed, and not sent, with status 6. With a TIME, as
@@ -50,16 +57,18 @@ time; any number may put messages in.
                  accepted since are shown, with the CODE for --seen; then the decision is kept as a
                  record, and the message waits again
 --untraced       where the records of reports of work that were not taken go: a folder, or
-                 https://desk.plant/line/untraced. Without it they are kept in the folder `untraced`
-                 of the spool, and are handed on once it is named
+                 https://desk.plant/line/untraced. Without it they are kept in the spool, and are
+                 handed on once it is named
 --status         where NAME.json lists every few seconds the messages that wait or were set aside,
                  and the state of machines: a folder, or https://desk.plant/line/status
                  The proxy takes it under the name of the log-in only
---name           the sender's name there (that of --user, else of the spool's folder)
+--name           the sender's name there (that of --user, else of the spool)
 --interlock      a command that is called as COMMAND MACHINE STATE REASON BOARD, at each change and
                  every --every seconds (2). STATE is `go` only while the desk says that the board is
                  in work and the sheet's slots have good reels, nothing that was refused is open,
-                 and no start of work waits; else `stop`. docs/interlock.md has the rules
+                 no start of work waits, and who feeds the spool lives; else `stop`.
+                 docs/interlock.md has the rules
+--release        says that a bridge or a program feeds the spool no more: else it stops the machine
 --machine NAME   a machine of the interlock; --silence SECONDS without an answer stop it (10). One
                  sender has a machine
 --scans          where the proxy lists what others scanned: a folder, or
@@ -86,8 +95,8 @@ there: IdReused. The desk is asked whether its archive has that message. If it h
 done, and a line on standard error says so.
 
 A message that is refused, faulty, too long, or Ignored though its name begins with TraceDesk. was
-not taken. With a spool it is set aside in its folder `aside`, with the reason, and the next one is
-sent. With two files its answer is in ANSWERS.
+not taken. It is set aside in the spool, with the reason, and the next one is sent. With two files
+its answer is in ANSWERS.
 --stop-at-refusal  ends the run at such a message, on standard error. A request stays the next one
                    that is sent, so that it is sent again once its fault is mended. A report of work
                    is done with: it is set aside, or its answer is kept
@@ -112,106 +121,42 @@ next run.
 from __future__ import annotations
 
 import argparse
-import datetime
-import hashlib
 import os
 import pathlib
 import re
+import sqlite3
 import sys
 from typing import List, Optional
 
-from . import __version__, answers, command, desk, disk, interlock, scans, sender, spool
-from . import sent, two_files, untraced, validate
+from . import __version__, by_hand, command, desk, disk, interlock, scans, sender, spool
+from . import two_files, untraced, validate
 from .console import NAME, ended, say, tell
 
 RATE = 40.0  # messages a second of one spool
 SHOWING = 20.0  # seconds of patience for what is shown before a decision
 NAMED = re.compile("[A-Za-z0-9_-][A-Za-z0-9._-]{0,63}")
-TIME = re.compile(r"\d{4}-\d\d-\d\d[Tt]\d\d:\d\d.*")
 
 
 # --- A spool
 
 
+def name_of(asked: argparse.Namespace) -> str:
+    """The sender's name in records; empty where it is that of its spool."""
+    name = str(asked.name or asked.user or "")
+    return name if NAMED.fullmatch(name) else ""
+
+
 def spool_of(asked: argparse.Namespace) -> spool.Spool:
-    name = asked.name or (asked.user if NAMED.fullmatch(asked.user or "") else None)
-    return spool.Spool(asked.spool, asked.keep_days, round(asked.keep_mib * (1 << 20)), name)
+    most = round(asked.keep_mib * (1 << 20))
+    return spool.Spool(asked.spool, asked.keep_days, most, name_of(asked))
 
 
-def put(into: spool.Spool, file: str) -> int:
-    with open(sys.stdin.fileno() if file == "-" else file, "rb", closefd=file != "-") as stream:
-        count = sum(
-            bool(into.put(it if isinstance(it, bytes) else b"".join(it)))
-            for it in disk.lines_of(stream)
-        )
-    say(f"{count} put into {into.folder}, {len(into.names())} wait")
-    return 0
-
-
-def moment(text: str) -> float:
-    """A second of the clock."""
-    try:
-        at = datetime.datetime.fromisoformat(re.sub("[Zz]$", "+00:00", text))
-    except ValueError:
-        raise disk.SpoolError(f"{text} is no time, as 2026-03-02T06:00Z") from None
-    if at.tzinfo is None:
-        raise disk.SpoolError(
-            f"{text} has no offset: a time is spelled as 2026-03-02T06:00Z or"
-            " 2026-03-02T07:00+01:00"
-        )
-    return at.timestamp()
-
-
-def again(asked: argparse.Namespace, into: spool.Spool) -> int:
-    names: List[str] = asked.again
-    if len(names) == 1 and TIME.fullmatch(names[0]):
-        found = into.again_since(moment(names[0]))
-        say(
-            f"{len(found)} wait again, before those that wait"
-            + (
-                f": {found[0]} to {found[-1]}"
-                if found
-                else f": {into.sent} has none that was sent since then"
-            )
-        )
-        return 0
-    names = into.set_aside() if names == ["all"] else names
-    reports = [it for it in names if into.is_report(it)]
-    if asked.by and reports:
-        if asked.seen != show(asked, into, reports):
-            return 6
-        for it in reports:
-            into.decide(it, asked.by, asked.reason)
-        reports = []
-    found = into.again((it for it in names if it not in reports), decided=bool(asked.by))
-    say(f"{len(found)} wait again{', as ' + ' '.join(found) if found else ''}")
-    for it in reports:
-        tell(
-            f"message {it} is a report of work, and is not sent again:"
-            f" {untraced.brief(into.message(it))} was {answers.short(into.why(it)[1])}"
-        )
-    if reports:
-        tell(
-            f"{len(reports)} reports of work stay in {into.aside}: the boards are untraced work."
-            " Decide about each by tracedesk-untraced. To send one again all the same, name it,"
-            " with --by and --reason"
-        )
-    return 6 if reports else 0
-
-
-def show(asked: argparse.Namespace, into: spool.Spool, names: List[str]) -> str:
-    """Shows what who decides must see, and returns its code: it changes with what is shown."""
-    with desk_of(asked) as to:
-        shown = "\n".join(untraced.shown(into, it, to) for it in names)
-    code = hashlib.sha256(shown.encode()).hexdigest()[:8]
-    if asked.seen != code:
-        say(shown)
-        tell(
-            "nothing is sent"
-            + (": what is shown has changed" if asked.seen else "")
-            + f". If the reels are those of the work, decide by the same command with --seen {code}"
-        )
-    return code
+def places_of(asked: argparse.Namespace) -> List[Optional[untraced.Place]]:
+    """Where records and the status go."""
+    return [
+        untraced.Place(it, lambda url: desk_of(asked, url, untraced.TIMEOUT)) if it else None
+        for it in (asked.untraced, asked.status)
+    ]
 
 
 def run_spool(asked: argparse.Namespace, to: desk.Desk) -> int:
@@ -221,15 +166,11 @@ def run_spool(asked: argparse.Namespace, to: desk.Desk) -> int:
         follower = sender.Lines(into, sys.stdin.buffer, lambda name: say(f"kept {name}"), tell)
     elif asked.follow:
         follower = sender.Folder(into, pathlib.Path(asked.follow), tell)
-    places = [
-        untraced.Place(it, lambda url: desk_of(asked, url, untraced.TIMEOUT)) if it else None
-        for it in (asked.untraced, asked.status)
-    ]
     states = interlock.Interlock(
         into, asked.machine, asked.silence, asked.every, bool(asked.interlock)
     )
     calls = command.Command(states, asked.interlock, tell) if asked.interlock else None
-    run = sender.Sender(into, to, asked.stop_at_refusal, tell, states, calls, *places)
+    run = sender.Sender(into, to, asked.stop_at_refusal, tell, states, calls, *places_of(asked))
     if calls:
         follow_scans(asked, states)
         command.end_at_signal(calls)
@@ -303,18 +244,18 @@ def reader_of_words() -> argparse.ArgumentParser:
         metavar="SECONDS",
         help=f"for one answer ({desk.TIMEOUT:.0f})",
     )
-    reader.add_argument("--spool", metavar="FOLDER", help="where messages wait")
+    reader.add_argument("--spool", metavar="FILE", help="where messages wait")
     reader.add_argument(
         "--keep-days",
         type=float,
-        default=sent.KEPT_DAYS,
+        default=spool.KEPT_DAYS,
         metavar="N",
         help="how long sent messages are kept",
     )
     reader.add_argument(
         "--keep-mib",
         type=float,
-        default=sent.KEPT_BYTES / (1 << 20),
+        default=spool.KEPT_BYTES / (1 << 20),
         metavar="N",
         help="how much disk they may take",
     )
@@ -326,7 +267,9 @@ def reader_of_words() -> argparse.ArgumentParser:
     )
     what.add_argument("--stay", action="store_true")
     what.add_argument("--put", metavar="FILE")
-    what.add_argument("--again", nargs="+", metavar="NAME")
+    for name in ("again", "show", "drop", "release"):
+        what.add_argument(f"--{name}", nargs="+", metavar="NAME")
+    what.add_argument("--list", choices=(*by_hand.STATES, "all"))
     what.add_argument("--check", action="store_true")
     what.add_argument("--validate", metavar="FILE")
     for name in ("by", "reason", "seen", "untraced", "status", "name", "interlock", "scans"):
@@ -344,20 +287,10 @@ def words() -> argparse.Namespace:
     reader = reader_of_words()
     asked = reader.parse_args()
     if len(asked.files) != (0 if asked.spool or asked.check or asked.validate else 2):
-        reader.error("name --spool FOLDER, or two files: MESSAGES and ANSWERS")
-    if not asked.spool and (
-        asked.follow
-        or asked.stay
-        or asked.put
-        or asked.again
-        or asked.untraced
-        or asked.status
-        or asked.interlock
-    ):
-        reader.error(
-            "--follow, --stay, --put, --again, --untraced, --status and --interlock want --spool"
-            " FOLDER"
-        )
+        reader.error("name --spool FILE, or two files: MESSAGES and ANSWERS")
+    of_a_spool = "follow stay put again list show drop release interlock".split()
+    if not asked.spool and any(getattr(asked, it) for it in of_a_spool):
+        reader.error(", ".join(f"--{it}" for it in of_a_spool) + " want --spool FILE")
     if (asked.by or asked.reason or asked.seen) and not (
         asked.again and asked.by and asked.by.strip() and asked.reason and asked.reason.strip()
     ):
@@ -425,16 +358,24 @@ def desk_of(
 
 def run(asked: argparse.Namespace) -> int:
     if asked.put:
-        return put(spool_of(asked), asked.put)
+        return by_hand.put(spool_of(asked), asked.put)
     if asked.again:
-        return again(asked, spool_of(asked))
+        return by_hand.again(asked, spool_of(asked), lambda: desk_of(asked))
+    if asked.list:
+        return by_hand.listed(spool_of(asked), asked.list)
+    if asked.show:
+        return by_hand.show(spool_of(asked), asked.show)
+    if asked.drop or asked.release:
+        return by_hand.give_up(spool_of(asked), asked.drop or [], asked.release or [])
     if asked.validate:
         return validate.run(asked.validate, say)
     if asked.check:
         return check(asked)
     to = desk_of(asked)
     try:
-        return run_spool(asked, to) if asked.spool else two_files.run(asked, to)
+        if asked.spool:
+            return run_spool(asked, to)
+        return two_files.run(asked, to, *places_of(asked), name=name_of(asked))
     finally:
         to.close()
         tell(f"{to.sent_again} times sent again")
@@ -447,6 +388,7 @@ def main() -> int:
         {
             sender.Stopped: 1,
             disk.SpoolError: 2,
+            sqlite3.Error: 2,
             OSError: 2,
             ValueError: 2,
             desk.GivenUp: 3,

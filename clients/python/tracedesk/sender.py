@@ -15,10 +15,13 @@ from .console import NEWS_OF_A_FAULT, patiently
 from .desk import Desk
 from .command import Command
 from .interlock import Interlock
-from .disk import files_in, lines_of, lock_alone, write_synced
-from .spool import MOST_READ, Spool
+from .disk import files_in, lines_of, lock_alone
+from .spool import MOST_READ, Spool, uid_of
 
 LOOK = 0.2  # seconds between two looks at a folder
+FOLLOWER = "the sender's own source"  # the name of its lease
+
+Differs = Tuple[str, bytes, Dict[str, Any]]  # a record, with its id and what a status says of it
 
 
 def machine_of(told: Dict[str, Any]) -> str:
@@ -51,33 +54,30 @@ class Sender:
         self.command, self.asker = command, asking.Asker(self.interlock, desk)
         self.line = untraced.Line(spool, desk, self.interlock, inbox, status, tell)
         self.sent = self.aside = 0
+        # takes each answer before it is kept
+        self.answered: Callable[[answers.Answer], None] = lambda answer: None
         self.news, self.dropped, self.next_news = threading.Event(), 0, 0.0
 
-    def answer_to(self, name: str) -> Tuple[Optional[answers.Answer], Dict[str, Any]]:
-        """The answer to a message, and the message; none if it is gone. One that is too long for
-        any desk has its answer at once.
+    def answer_to(self, name: str) -> Tuple[answers.Answer, Dict[str, Any]]:
+        """The answer to a message, and the message. One that is too long for any desk has its
+        answer at once.
         """
-        place = self.spool.waiting / f"{name}.json"
-        if not patiently(place.exists, self.tell):
-            self.tell(f"{place} was deleted before it was sent")
-            return None, {}
-        if (size := patiently(place.stat, self.tell).st_size) > forms.LONGEST_MESSAGE:
-            return answers.LINE_TOO_LONG, self.spool.message(name) if size <= MOST_READ else {}
         text = patiently(lambda: self.spool.text(name), self.tell)
-        told = records.as_read(text)
+        told = records.as_read(text if len(text) <= MOST_READ else b"")
+        if len(text) > forms.LONGEST_MESSAGE:
+            return answers.LINE_TOO_LONG, told
         if answers.word_of(told) == "WorkStarted":
-            self.asker.look(str(answers.body_of(told).get("Machine")))
+            self.asker.look(machine_of(told))
+        _, is_tried = patiently(lambda: self.spool.take(name), self.tell)
         try:
             return (
-                self.desk.send(
-                    text,
-                    self.spool.is_tried(name),
-                    lambda: self.spool.has_accepted(str(told.get("UniqueID")), name),
-                ),
+                self.desk.send(text, is_tried, lambda: self.spool.has_accepted(uid_of(text), name)),
                 told,
             )
-        finally:
-            self.spool.is_unanswered = self.desk.is_unanswered
+        except Exception:
+            if not self.desk.is_unanswered:
+                self.spool.untried(name)
+            raise
 
     def send_waiting(self) -> int:
         """Sends each message that waits; how many they were."""
@@ -86,64 +86,67 @@ class Sender:
         for name in names:
             self.asker.ask()
             answer, told = self.answer_to(name)
-            if answer is None:
-                self.interlock.gone(name)
-                continue
             is_taken, is_report = answers.is_taken(answer), records.is_report(told)
             if not is_taken:
                 self.interlock.judged(name, told, answer)  # a machine is stopped before all else
-                why = f"message {name} is {answers.why(answer)}"
-                if self.stops and not is_report:
-                    raise Stopped(f"{why}\n{answer.text.decode(errors='replace')}")
-                self.tell(
-                    f"{why}. It is set aside in {self.spool.aside}"
-                    + (
-                        ". It is a report of work, and isn't sent again: a person decides about"
-                        f" it{self.line.where_kept()}"
-                        if is_report
-                        else ""
-                    )
-                )
-                self.aside += 1
+                self.refused(name, answer, is_report)
             differs = self.compare(told, answer)
-            self.keep(name, answer)
+            self.keep(name, answer, [(id_, text) for id_, text, _ in differs])
             if is_taken:
                 if self.interlock.is_needed and answers.word_of(told) == "WorkStarted":
                     # a later start may wait by now
                     self.interlock.look_ahead(patiently(self.spool.names, self.tell))
                 self.interlock.judged(name, told, answer)
-                for shown in differs:
+                for _, _, shown in differs:
                     self.interlock.differ(machine_of(told), witness.looked_up(self.desk, shown))
             elif is_report:
                 self.tell_line(name, told)
                 if self.stops:
-                    raise Stopped(f"{why}\n{answer.text.decode(errors='replace')}")
+                    raise self.stopped(name, answer)
         return len(names)
 
-    def compare(self, told: Dict[str, Any], answer: answers.Answer) -> List[Dict[str, Any]]:
-        """Compares the machine's reels with the desk's. What differs stops the machine, and is on
-        disk before the answer is.
+    def stopped(self, name: str, answer: answers.Answer) -> "Stopped":
+        said = answer.text.decode(errors="replace")
+        return Stopped(f"message {name} is {answers.why(answer)}\n{said}")
+
+    def refused(self, name: str, answer: answers.Answer, is_report: bool) -> None:
+        """Reports that a message is not taken; a request may end the run."""
+        if self.stops and not is_report:
+            patiently(lambda: self.spool.untried(name), self.tell)  # this was its answer
+            raise self.stopped(name, answer)
+        self.tell(
+            f"message {name} is {answers.why(answer)}. It is set aside in {self.spool.path}"
+            + (
+                ". It is a report of work, and isn't sent again: a person decides about"
+                f" it{self.line.where_kept()}"
+                if is_report
+                else ""
+            )
+        )
+        self.aside += 1
+
+    def compare(self, told: Dict[str, Any], answer: answers.Answer) -> List[Differs]:
+        """Compares the machine's reels with the desk's. What differs stops the machine; its records
+        are kept with the answer.
         """
         if (fault := witness.fault_of(told)) and answers.is_taken(answer):
             self.tell(f"{machine_of(told)}: {fault}")
             self.interlock.unread(machine_of(told), told, fault)
-        found = []
-        for id_, text, shown in witness.made(told, answer, f"tracedesk-send {self.spool.name}"):
+        found = witness.made(told, answer, f"tracedesk-send {self.spool.name}")
+        for _, _, shown in found:
             self.interlock.differ(machine_of(told), shown)
-            patiently(lambda: self.spool.keep_made(id_, text), self.tell)
             self.tell(
                 f"board {shown['Board']}: the machine took reel {shown['Machine']} for "
                 f"{' '.join(shown['Designators'])}, and the desk has {shown['Desk']}: "
                 f"a person decides about it{self.line.where_kept()}"
             )
-            found.append(shown)
         return found
 
-    def keep(self, name: str, answer: answers.Answer) -> None:
-        """Keeps an answer, and then moves its message."""
+    def keep(self, name: str, answer: answers.Answer, made: List[Tuple[str, bytes]]) -> None:
+        """Keeps an answer, and what follows of it."""
         at = records.utc()
-        patiently(lambda: self.spool.keep_answer(name, answer, at), self.tell)
-        patiently(lambda: self.spool.finish(name, answer, at), self.tell)
+        patiently(lambda: self.answered(answer), self.tell)
+        patiently(lambda: self.spool.done(name, answer, at, made), self.tell)
         self.sent += 1
         self.look_at_what_is_kept()
 
@@ -152,36 +155,31 @@ class Sender:
         refusal at the line.
         """
         machine = machine_of(told)
-        with contextlib.suppress(OSError, IndexError):
-            _, answer, more = self.spool.why(name)
-            self.interlock.refused(
-                machine, {"Answer": answers.read_object(answer.text), "Message": told, **more}
-            )
+        self.interlock.refused(machine, self.spool.kept(name).refusal)
         with contextlib.suppress(Exception):  # who decides is told that they are not known
             with self.desk.hasty() as desk:
-                write_synced(
-                    self.spool.aside / f"{name}.slots",
-                    "\n".join(untraced.slots_of(desk, machine)).encode(),
-                )
+                self.spool.keep_slots(name, "\n".join(untraced.slots_of(desk, machine)))
         self.interlock.news()
 
     def look_at_what_is_kept(self) -> None:
-        """Reports, once a minute, sent messages that were deleted before their days were over."""
-        if self.spool.kept.dropped_early > self.dropped and time.monotonic() >= self.next_news:
-            self.dropped, self.next_news = (
-                self.spool.kept.dropped_early,
-                time.monotonic() + NEWS_OF_A_FAULT,
-            )
+        """Once a minute forgets what was sent long ago, or is too much. Reports messages that were
+        deleted before their days were over.
+        """
+        if time.monotonic() < self.next_news:
+            return
+        self.next_news = time.monotonic() + NEWS_OF_A_FAULT
+        patiently(self.spool.forget, self.tell)
+        if self.spool.dropped_early > self.dropped:
+            self.dropped = self.spool.dropped_early
             self.tell(
-                f"{self.spool.sent} has more than --keep-mib: {self.dropped} messages of less than"
-                " --keep-days were deleted there, and can't be sent again"
+                f"{self.spool.path} has more than --keep-mib of sent messages: {self.dropped} of"
+                " less than --keep-days were deleted there, and can't be sent again"
             )
 
     def run(self, follower: Optional["Follower"] = None, stays: bool = False) -> None:
         """Sends until nothing waits; with a follower until that has ended; or for good."""
         with contextlib.ExitStack() as held:
             held.enter_context(self.spool.sending())
-            self.aside += self.spool.is_made_good
             held.enter_context(self.interlock.held(self.desk.address))
             held.callback(self.line.look)
             if self.command:
@@ -191,6 +189,8 @@ class Sender:
             if follower:
                 held.enter_context(follower.held())
                 follower.begin(self.news)
+            else:
+                self.spool.release(FOLLOWER)
             while True:
                 is_ended = follower is None or follower.is_ended
                 self.interlock.is_stuck = follower is not None and follower.is_stuck
@@ -217,6 +217,7 @@ class Follower:
 
     def begin(self, news: threading.Event) -> None:
         self.news = news
+        self.spool.renew(FOLLOWER)
         threading.Thread(target=self.run, daemon=True).start()
 
     def tell(self, line: str) -> None:
@@ -247,11 +248,20 @@ class Lines(Follower):
         super().__init__(spool, tell)
         self.stream, self.acknowledge = stream, acknowledge
 
+    def begin(self, news: threading.Event) -> None:
+        super().begin(news)
+        threading.Thread(target=self.live, daemon=True).start()
+
+    def live(self) -> None:
+        """The stream is open: somebody has its other end, also while he says nothing."""
+        while not self.is_ended:
+            self.spool.renew(FOLLOWER)
+            time.sleep(LOOK)
+
     def run(self) -> None:
         try:
             for line in lines_of(self.stream):
-                text = line if isinstance(line, bytes) else b"".join(line)
-                name = patiently(lambda: self.spool.put(text), self.tell)
+                name = patiently(lambda: self.spool.put(line), self.tell)
                 self.is_stuck = False
                 self.news.set()
                 self.acknowledge(name)
@@ -283,11 +293,8 @@ class Folder(Follower):
         handle = os.open(self.folder, os.O_RDONLY | os.O_DIRECTORY)
         try:
             with contextlib.suppress(OSError):  # some network folders know no locks
-                lock_alone(
-                    handle,
-                    self.folder,
-                    "sender follows this folder: end that one, or name another folder",
-                )
+                why = "another sender follows this folder: end that one, or name another folder"
+                lock_alone(handle, f"{self.folder}: {why}")
             yield
         finally:
             os.close(handle)
@@ -296,13 +303,14 @@ class Folder(Follower):
         while True:
             patiently(self.look, self.tell)
             self.is_stuck = False
+            self.spool.renew(FOLLOWER)
             time.sleep(LOOK)
 
     def look(self) -> None:
         """Takes in what was begun before, and then each file that is there."""
-        self.spool.take_begun()
         if self.begun.exists():
             self.spool.take_file(self.begun)
+        self.spool.forget_file(self.begun)
         for path in files_in(self.folder):
             with contextlib.suppress(FileNotFoundError):
                 os.rename(path, self.begun)

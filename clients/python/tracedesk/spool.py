@@ -1,59 +1,104 @@
-"""A folder in which messages wait until they are answered. Each is on disk, with its name, before
-it is sent.
+"""Messages that wait until they are answered, in one SQLite file: each is on disk, with its name,
+before it is sent.
 
-    waiting/000000000012.json     a message, sent in the order of the names
-    answers/2026-03-02.jsonl      a line for each answer, in the order sent:
-                                  {"Answer":{..},"Message":"000000000012"}
-    sent/000000000011.json        a message that was accepted, kept for some days; .refused is a
-                                  copy of one that was refused
-    aside/000000000007.json       a message that was not taken, and beside it
-    aside/000000000007.why        what was wrong, and what to do; and the id of its record, if one
-                                  is made
-    aside/000000000007.slots      the reels on the machine when a report of work was refused
-    untraced/ID.json              a record of untraced work that isn't handed on yet
+    spool = Spool("m1")
+    spool.put(b'{..}')
+    with spool.sending():
+        for name in spool.names():
+            text, is_tried = spool.take(name)
+            spool.done(name, desk.send(text, is_tried))
 
-Files of answers of earlier days may be deleted. Programs may put messages in at the same time; one
-sends.
+A message waits; then it is `sent`, or it is set `aside` with the answer that says why, until a
+person has it sent again or drops it. Programs may put messages in at the same time; one sends. Who
+feeds a spool holds a lease in it, by which the interlock knows that the machine is heard. A program
+that has a Spool opens the file in no other way: as that is closed SQLite's locks are lost.
 """
 from __future__ import annotations
 
 import contextlib
-import datetime
-import fcntl
 import json
 import os
 import pathlib
 import re
+import sqlite3
+import threading
+import time
 import uuid
-from typing import Any, Callable, Dict, Iterable, Iterator, List, Optional, Tuple, Union
+from typing import Any, Dict, Iterable, Iterator, List, NamedTuple, Optional, Tuple, Union
 
 from . import answers, forms, records
-from .console import patiently
-from .disk import (
-    NAME,
-    SpoolError,
-    lines_of,
-    lock_alone,
-    names_in,
-    spelled,
-    sync_folder,
-    write_synced,
-)
-from .intake import Intake
-from .sent import KEPT_BYTES, KEPT_DAYS, Sent
+from .disk import SpoolError, lines_of, locked
 
-LOG = re.compile(r"\d{4}-\d\d-\d\d\.jsonl")
-LAST = 999_999_999_999  # the greatest number
-MOST_READ = 16 << 20  # bytes of a message of which a record is made
-STATE: Dict[str, Callable[[Any], bool]] = {  # what the members of .sender may be
-    "Tried": lambda it: type(it) is int,
-    "Runs": lambda it: type(it) is bool,
-    "Answers": lambda it: it is None or isinstance(it, str),
-    "Behind": lambda it: type(it) is int,
-    "Again": (
-        lambda it: it is None or isinstance(it, list) and [type(one) for one in it] == [int, int]
-    ),
-}
+SCHEMA = """
+PRAGMA journal_mode = WAL;
+BEGIN IMMEDIATE;
+CREATE TABLE IF NOT EXISTS message (
+  n INTEGER PRIMARY KEY AUTOINCREMENT, text BLOB NOT NULL, uid TEXT NOT NULL,
+  state TEXT NOT NULL DEFAULT 'waiting' CHECK (state IN ('waiting', 'sent', 'aside', 'dropped')),
+  tried INTEGER NOT NULL DEFAULT 0, came REAL NOT NULL, answered REAL, answer BLOB,
+  archived INTEGER NOT NULL DEFAULT 0, record TEXT NOT NULL DEFAULT '',
+  slots TEXT NOT NULL DEFAULT '');
+CREATE INDEX IF NOT EXISTS message_of_state ON message (state, n);
+CREATE INDEX IF NOT EXISTS message_of_uid ON message (uid);
+CREATE TABLE IF NOT EXISTS record (id TEXT PRIMARY KEY, text BLOB NOT NULL);
+CREATE TABLE IF NOT EXISTS taken (file TEXT PRIMARY KEY, lines INTEGER NOT NULL);
+CREATE TABLE IF NOT EXISTS feeder (name TEXT PRIMARY KEY, ahead REAL NOT NULL, at REAL NOT NULL);
+CREATE TABLE IF NOT EXISTS kept (name TEXT PRIMARY KEY, value TEXT NOT NULL);
+PRAGMA user_version = 1;
+COMMIT;
+"""
+KEPT_DAYS, KEPT_BYTES = 7.0, 512 << 20  # of sent messages, at most
+ALWAYS_KEPT = 16 << 20  # bytes of sent messages, however old a wrong clock makes them
+AT_ONCE = 1000  # lines of a file in one transaction
+BUSY = 60.0  # seconds that another program may have the file
+MOST_READ = 16 << 20  # bytes of a message that is read
+RENEWED = 1.0  # seconds between two writes of a lease
+SAME = 2.0  # seconds by which clocks may be apart that nobody has set
+
+
+class Kept(NamedTuple):
+    """A message of a spool; `answer` is none while it waits for its first one."""
+
+    name: str
+    text: bytes
+    state: str
+    answer: Optional[answers.Answer]
+    answered: str
+    record: str
+
+    @property
+    def refusal(self) -> Dict[str, Any]:
+        """A report of work that was refused, as a status has it."""
+        answer = answers.read_object(self.answer.text) if self.answer else {}
+        told = {"Answer": answer, "Message": records.as_read(self.text)}
+        return {**told, "At": self.answered, "Id": self.record}
+
+    @property
+    def why(self) -> str:
+        """Why it was set aside, and what to do."""
+        return answers.why(self.answer) if self.answer and self.state == "aside" else ""
+
+
+def clock() -> float:
+    """Seconds, also those of a suspend."""
+    return time.clock_gettime(time.CLOCK_BOOTTIME)
+
+
+def ahead() -> float:
+    """By how much the day's clock is ahead of that one: it tells one start of this machine from
+    another.
+    """
+    return time.time() - clock()
+
+
+def spelled(number: int) -> str:
+    return f"{number:012}"
+
+
+def uid_of(text: bytes) -> str:
+    """The UniqueID of a message, as far as it can be read."""
+    told = records.as_read(text) if len(text) <= MOST_READ else {}
+    return str(told.get("UniqueID", "")).encode(errors="replace").decode()
 
 
 class Spool:
@@ -63,327 +108,218 @@ class Spool:
 
     def __init__(
         self,
-        folder: Union[str, "os.PathLike[str]"],
+        path: Union[str, "os.PathLike[str]"],
         days: float = KEPT_DAYS,
         most: int = KEPT_BYTES,
-        name: Optional[str] = None,
+        name: str = "",
     ) -> None:
-        self.folder = pathlib.Path(folder)
-        self.name = name or self.folder.absolute().name
-        self.waiting, self.aside, self.answered, self.sent, self.untraced = (
-            self.folder / it for it in ("waiting", "aside", "answers", "sent", "untraced")
+        self.path, self.days, self.most = pathlib.Path(path), days, most
+        self.name = name or re.sub(r"\.spool$", "", self.path.absolute().name)
+        if self.path.is_dir():
+            raise SpoolError(
+                f"{path} is a folder, and a spool is one file: give it another name. What waits in"
+                f" a folder of the form before is put into it by: for it in {path}/waiting/*.json;"
+                ' do cat "$it"; echo; done | tracedesk-send --spool FILE --put -'
+            )
+        with contextlib.suppress(FileExistsError):
+            os.close(os.open(self.path, os.O_CREAT | os.O_EXCL | os.O_WRONLY, 0o600))
+        # one connection for all threads of this process: who has the lock is alone
+        self.lock = threading.RLock()
+        self.database = sqlite3.connect(
+            str(self.path), BUSY, isolation_level=None, check_same_thread=False
         )
-        for it in (self.folder, self.waiting, self.aside, self.answered, self.sent, self.untraced):
-            if not it.is_dir():
-                it.mkdir(mode=0o700, parents=it == self.folder, exist_ok=True)
-                sync_folder(it.parent)
-        self.is_counted, self.log = False, None  # type: Tuple[bool, Optional[Tuple[str, int]]]
-        self.state: Dict[str, Any] = {}
-        self.kept, self.intake = Sent(self.sent, days, most), Intake(self.folder)
-        # Whether this run set a message aside that one before had an answer to.
-        self.is_made_good = False
-        # Whether the run that ends leaves a message with a try and without an answer.
-        self.is_unanswered = False
+        self.dropped_early = 0  # sent messages that went before their days were over
+        self.renewed: Dict[str, float] = {}
+        try:
+            self.make()
+        except sqlite3.DatabaseError as fault:
+            self.close()
+            raise SpoolError(f"{path} can't be used as a spool: {fault}") from None
 
-    # --- Numbers. The file .lock has the last one, and the word "busy" while one more message is
-    # put in.
+    def make(self) -> None:
+        """Makes what isn't there yet. Others may do so at the same time: SQLite waits for none of
+        them while it changes to a log.
+        """
+        end = time.monotonic() + BUSY
+        while self.rows("PRAGMA user_version") != [(1,)]:
+            try:
+                self.database.executescript(SCHEMA)
+            except sqlite3.OperationalError:
+                with contextlib.suppress(sqlite3.Error):
+                    self.database.execute("ROLLBACK")
+                if time.monotonic() > end:
+                    raise
+                time.sleep(0.05)
+        self.rows("PRAGMA synchronous = FULL")
+        self.rows("PRAGMA temp_store = MEMORY")  # a service may have no folder for other files
+
+    def close(self) -> None:
+        self.database.close()
+
+    def rows(self, query: str, *values: object) -> List[Any]:
+        with self.lock:
+            return self.database.execute(query, values).fetchall()
 
     @contextlib.contextmanager
-    def locked(self) -> Iterator[int]:
-        handle = os.open(self.folder / ".lock", os.O_RDWR | os.O_CREAT, 0o600)
-        try:
-            fcntl.flock(handle, fcntl.LOCK_EX)
-            yield handle
-        finally:
-            os.close(handle)
+    def whole(self) -> Iterator[None]:
+        """All that is done within, or nothing: it is on disk at the end."""
+        with self.lock:
+            if self.database.in_transaction:
+                yield
+                return
+            self.database.execute("BEGIN IMMEDIATE")
+            try:
+                yield
+                self.database.execute("COMMIT")
+            except BaseException:
+                if self.database.in_transaction:
+                    self.database.execute("ROLLBACK")
+                raise
 
-    def last(self, lock: int) -> int:
-        """The greatest number so far. It is counted anew once, and after a process that ended in
-        the middle of a `put`.
+    def change(self, query: str, *values: object) -> int:
+        """Changes rows; how many they were."""
+        with self.whole():
+            return self.database.execute(query, values).rowcount
+
+    # --- What comes in
+
+    def put(self, message: Union[forms.Message, bytes], tried: bool = False) -> str:
+        """Keeps a message behind those before it, and returns its name in the spool."""
+        text = message if isinstance(message, bytes) else message.text
+        with self.whole():
+            added = self.database.execute(
+                "INSERT INTO message (text, uid, came, tried) VALUES (?, ?, ?, ?)",
+                (text, uid_of(text), time.time(), tried),
+            )
+        return spelled(added.lastrowid or 0)
+
+    def refill(self, texts: Iterable[bytes], may_be_tried: bool) -> None:
+        """Has these messages wait in place of those that do. The first one may have been tried, by
+        what is known of it here, or as the caller says of a spool that is new.
         """
-        told = re.fullmatch(rb"(\d{12}) (busy|free)\n", os.pread(lock, 100, 0))
-        told = (
-            None if told and int(told[1]) >= LAST else told
-        )  # a file that was damaged: no spool comes that far
-        stored = (int(told[1]) - (told[2] == b"busy")) if told else 0
-        if told and told[2] == b"free" and self.is_counted:
-            return stored
-        self.is_counted = True
-        names = [int(it[-1]) for it in map(names_in, (self.waiting, self.aside, self.sent)) if it]
-        return max(
-            [stored, *names, *([] if told else [self.last_answer(it)[0] for it in self.logs()])]
-        )
-
-    def put(self, message: Union[forms.Message, bytes]) -> str:
-        """Keeps a message on disk, behind those before it, and returns its name in the spool."""
-        with self.locked() as lock:
-            last = self.last(lock)
-            if intake := self.intake.read():
-                self.intake.write(intake[0], last + 2, intake[2] + max(0, last - intake[1] + 1))
-            return self.put_next(
-                lock, last, message if isinstance(message, bytes) else message.text
+        with self.whole():
+            before = self.rows(
+                "SELECT text, tried FROM message WHERE state = 'waiting' ORDER BY n LIMIT 1"
             )
-
-    def put_next(self, lock: int, last: int, text: Union[bytes, Iterable[bytes]]) -> str:
-        name = spelled(last + 1)
-        if last >= LAST:
-            raise SpoolError(
-                f"{self.waiting} has a message of the greatest number: move it away, and use"
-                " another spool"
-            )
-        os.pwrite(lock, f"{name} busy\n".encode(), 0)
-        write_synced(self.waiting / f"{name}.json", text)
-        patiently(
-            lambda: sync_folder(self.waiting)
-        )  # it is there, and may be sent already: who puts it in must not do so again
-        with contextlib.suppress(OSError):
-            os.pwrite(lock, f"{name} free\n".encode(), 0)
-        return name
-
-    # --- Files of messages. Nobody else has a file of such a path.
+            self.change("DELETE FROM message WHERE state = 'waiting'")
+            for text in texts:
+                self.put(text, may_be_tried or before == [(text, 1)])
+                may_be_tried, before = False, []
 
     def take_file(self, path: pathlib.Path) -> int:
-        """Takes the lines of a file in, each once, and deletes the file; how many they are."""
-        number = -1
-        with open(path, "rb") as file, self.locked() as lock:
-            last, intake = self.last(lock), self.intake.read()
-            if intake is None or intake[0] != str(path.absolute()):
-                intake = str(path.absolute()), last + 1, 0
-                self.intake.write(*intake)
-            taken = intake[2] + max(0, last - intake[1] + 1)
-            for number, line in enumerate(lines_of(file)):
-                if number >= taken:
-                    self.put_next(lock, last, line)
-                    last += 1
-            path.unlink()
-            sync_folder(path.parent)
-            self.intake.drop()
-        return number + 1
+        """Takes the lines of a file in, each once, whatever ends it, and deletes the file; how many
+        they are. Nobody else has a file of such a path.
+        """
+        name, count = str(path.absolute()), 0
+        done = dict(self.rows("SELECT file, lines FROM taken")).get(name, 0)
+        with open(path, "rb") as file:
+            its = lines_of(file)
+            while some := [line for _, line in zip(range(AT_ONCE), its)]:
+                with self.whole():
+                    for line in some[max(0, done - count) :]:
+                        self.put(line)
+                    count += len(some)
+                    self.change("INSERT OR REPLACE INTO taken VALUES (?, ?)", name, count)
+        path.unlink()
+        self.forget_file(path)
+        return count
 
-    def take_begun(self) -> None:
-        """Goes on with the file that a run before was taking in, if one was."""
-        if intake := self.intake.read():
-            with contextlib.suppress(FileNotFoundError):
-                self.take_file(pathlib.Path(intake[0]))
-                return
-            with self.locked() as lock:
-                self.last(lock)
-                self.intake.drop()
+    def forget_file(self, path: pathlib.Path) -> None:
+        """Says that a file which was taken in is not there any more."""
+        if self.rows("SELECT 1 FROM taken WHERE file = ?", str(path.absolute())):
+            self.change("DELETE FROM taken WHERE file = ?", str(path.absolute()))
 
-    # --- Sending. The file .sender has up to which message there may have been a try ("Tried"),
-    # whether a run is under way or was killed ("Runs"), which file has the last answer ("Answers"),
-    # how many bytes of it are older than this run ("Behind"), and which sent messages go back to
-    # those that wait ("Again").
-
-    def read_state(self) -> Dict[str, Any]:
-        state = {
-            "Tried": 0,
-            "Runs": False,
-            "Answers": max(self.logs(), default=None),
-            "Behind": 0,
-            "Again": None,
-        }
-        with contextlib.suppress(FileNotFoundError, ValueError):
-            told = json.loads((self.folder / ".sender").read_text())
-            state.update(
-                {
-                    name: told[name]
-                    for name, is_it in STATE.items()
-                    if name in told and is_it(told[name])
-                }
-                if isinstance(told, dict)
-                else {}
-            )
-        return state
-
-    def write_state(self, **changes: Any) -> None:
-        state = {**self.state, **changes}
-        write_synced(self.folder / ".sender", json.dumps(state).encode())
-        sync_folder(self.folder)
-        self.state = state  # what is on disk, and nothing else
+    # --- Sending
 
     @contextlib.contextmanager
     def sending(self) -> Iterator[None]:
-        """Held by the one that sends. What a killed run left between an answer and what follows of
-        it is made good first.
-        """
-        handle = os.open(self.folder / ".sending", os.O_RDWR | os.O_CREAT, 0o600)
-        try:
-            lock_alone(
-                handle, self.folder, "sender has this spool: end that one, or name another spool"
-            )
-            self.state = self.read_state()
-            self.move_back()
-            known = self.state["Answers"], self.state["Behind"]
-            number, answer, at = self.last_answer(*known, mends=True)
-            self.is_made_good = (
-                answer is not None
-                and not answers.is_taken(answer)
-                and (self.waiting / f"{spelled(number)}.json").exists()
-            )
-            if answer is not None:
-                self.finish(spelled(number), answer, at)
-            self.record_old()
-            tried = [int(it) for it in self.names()[:1] if self.state["Runs"]]
-            self.write_state(Tried=max([self.state["Tried"], *tried]), Runs=True, Answers=None)
-            self.is_unanswered = False
-            try:
-                yield
-            except Exception:
-                self.write_state(Runs=self.is_unanswered)
-                raise
-            self.write_state(Runs=self.is_unanswered)
-        finally:
-            self.close_log()
-            os.close(handle)
+        """Held by the one that sends."""
+        with self.alone("sending", "sender"):
+            yield
 
-    def names(self) -> List[str]:
-        """The messages that wait, in their order."""
-        return names_in(self.waiting)
+    @contextlib.contextmanager
+    def alone(self, what: str, who: str) -> Iterator[None]:
+        """Held by the one process that does this."""
+        why = f"another {who} has this spool: end that one, or name another spool"
+        with locked(pathlib.Path(f"{self.path}.{what}"), f"{self.path}: {why}"):
+            yield
+
+    def names(self, state: str = "waiting") -> List[str]:
+        """The messages that wait, or are in another state, in their order."""
+        found = self.rows("SELECT n FROM message WHERE state = ? ORDER BY n", state)
+        return [spelled(n) for (n,) in found]
+
+    def waiting(self) -> Tuple[int, float]:
+        """How many messages wait, and since when the first one does."""
+        count, came = self.rows(
+            "SELECT count(*), ifnull(min(came), 0) FROM message WHERE state = 'waiting'"
+        )[0]
+        return int(count), float(came)
 
     def text(self, name: str) -> bytes:
-        return (self.waiting / f"{name}.json").read_bytes()
+        return bytes(self.row(name)[0])
 
     def is_tried(self, name: str) -> bool:
         """Whether a run before may have sent this message without an answer."""
-        return int(name) <= int(self.state["Tried"])
+        return self.rows("SELECT tried FROM message WHERE n = ?", number_of(name)) == [(1,)]
 
-    # --- Answers
+    def take(self, name: str) -> Tuple[bytes, bool]:
+        """A message whose turn it is, and whether it was tried before; that it is tried now is on
+        disk by then.
+        """
+        is_tried = self.is_tried(name)
+        if not is_tried:
+            self.change("UPDATE message SET tried = 1 WHERE n = ?", number_of(name))
+        return self.text(name), is_tried
 
-    def logs(self) -> List[str]:
-        return [it for it in os.listdir(self.answered) if LOG.fullmatch(it)]
+    def untried(self, name: str) -> None:
+        """Says that a message which was taken was not sent, or had its answer."""
+        self.change("UPDATE message SET tried = 0 WHERE n = ?", number_of(name))
 
-    def last_answer(
-        self, log: Optional[str], behind: int = 0, mends: bool = False
-    ) -> Tuple[int, Optional[answers.Answer], str]:
-        """The last answer in a file of answers behind so many bytes, the number of its message, and
-        when it came; `mends` cuts a line that was not written whole."""
-        with contextlib.suppress(OSError, ValueError, KeyError, TypeError):
-            with open(self.answered / str(log), "r+b" if mends else "rb") as file:
-                size = file.seek(0, os.SEEK_END)
-                tail, at = b"", size
-                while at > behind and tail.count(b"\n") < 2:
-                    at = max(behind, at - 4096)
-                    file.seek(at)
-                    tail = file.read(size - at)
-                whole, _, cut = tail.rpartition(b"\n")
-                if mends and cut:
-                    file.truncate(size - len(cut))
-                told = json.loads(whole.rpartition(b"\n")[2])
-                return (
-                    int(told["Message"]),
-                    answers.read(
-                        json.dumps(told["Answer"], separators=(",", ":")).encode(),
-                        told.get("Archived", False),
-                    ),
-                    str(told.get("At", "")),
+    def done(
+        self,
+        name: str,
+        answer: answers.Answer,
+        at: str = "",
+        made: Iterable[Tuple[str, bytes]] = (),
+    ) -> None:
+        """Keeps the answer to a message, the records that are made of it, and where it belongs
+        now.
+        """
+        record, is_taken = "", answers.is_taken(answer)
+        with self.whole():
+            text = self.text(name)
+            for id_, its in made:
+                self.keep_made(id_, its)
+            read = text if len(text) <= MOST_READ else b""
+            if not is_taken and records.is_recorded(records.as_read(read)):
+                record, its = records.record(
+                    "refused",
+                    f"tracedesk-send {self.name}",
+                    at or records.utc(),
+                    Answer=answers.read_object(answer.text),
+                    **records.kept_of(read, len(text)),
                 )
-        return 0, None, ""
-
-    def done(self, name: str, answer: answers.Answer, at: str = "") -> None:
-        """Keeps the answer to a message on disk; then the message goes where it belongs."""
-        at = at or records.utc()
-        self.keep_answer(name, answer, at)
-        self.finish(name, answer, at)
+                self.keep_made(record, its)
+            self.change(
+                "UPDATE message SET state = ?, answered = ?, answer = ?, archived = ?, record = ?"
+                " WHERE n = ? AND state = 'waiting'",
+                "sent" if is_taken else "aside",
+                time.time(),
+                answer.text,
+                answers.is_archived(answer),
+                record,
+                number_of(name),
+            )
 
     def has_accepted(self, unique_id: str, name: str) -> bool:
         """Whether the desk accepted another message of this spool under this UniqueID."""
-        for log in self.logs():
-            for line in (self.answered / log).read_bytes().splitlines():
-                if (
-                    unique_id.encode() in line
-                    and name.encode() not in line
-                    and answers.read_object(line).get("Answer", {}).get("Answer") == "Accepted"
-                ):
-                    return True
-        return False
-
-    def keep_answer(self, name: str, answer: answers.Answer, at: str = "") -> None:
-        """Adds an answer to the file of the day; of a message that was not taken with the time, so
-        that its record is the same each time it is made.
-        """
-        today = f"{datetime.date.today()}.jsonl"
-        if self.log is None or self.log[0] != today:
-            self.close_log()
-            self.log = today, os.open(
-                self.answered / today, os.O_WRONLY | os.O_CREAT | os.O_APPEND, 0o600
-            )
-            sync_folder(self.answered)
-        if self.state.get("Answers") != today:
-            # what is in it may be the answer to a message that is sent again
-            self.write_state(Answers=today, Behind=os.fstat(self.log[1]).st_size)
-        more = b',"Archived":true' if answers.is_archived(answer) else b""
-        if not more and not answers.is_taken(answer):
-            more = b',"At":"%b"' % at.encode()
-        line = b'{"Answer":%b%b,"Message":"%b"}\n' % (answer.text, more, name.encode())
-        size = os.fstat(self.log[1]).st_size
-        try:
-            if os.write(self.log[1], line) != len(line):
-                raise OSError(
-                    f"{self.answered / today}: the line was not written whole: is the disk full?"
-                )
-            os.fsync(self.log[1])
-        except OSError:
-            with contextlib.suppress(OSError):
-                os.ftruncate(self.log[1], size)
-            raise
-
-    def close_log(self) -> None:
-        if self.log is not None:
-            os.close(self.log[1])
-            self.log = None
-
-    def finish(self, name: str, answer: answers.Answer, at: str = "") -> None:
-        """Moves a message that is answered to those sent, or aside. Twice does no harm."""
-        place = self.waiting / f"{name}.json"
-        if not place.exists():
-            return
-        size = place.stat().st_size
-        if answers.is_taken(answer):
-            kept = self.sent / place.name
-            os.rename(place, kept)
-        else:
-            kept = self.sent / f"{name}.refused"
-            if size <= forms.LONGEST_MESSAGE:
-                write_synced(kept, place.read_bytes())
-            why = f"{answers.why(answer)}\n{answer.text.decode()}\n"
-            text = place.read_bytes() if size <= MOST_READ else b""
-            if records.is_recorded(records.as_read(text)):
-                why += self.keep_record(text, size, answer, at or records.utc())
-            write_synced(self.aside / f"{name}.why", why.encode())
-            os.rename(place, self.aside / place.name)
-            sync_folder(self.aside)
-        sync_folder(self.waiting)
-        self.kept.add(kept, size)
-
-    def keep_record(self, text: bytes, size: int, answer: answers.Answer, at: str) -> str:
-        """Keeps a record of a message that was not taken: the line of it for the file .why."""
-        made, text = records.record(
-            "refused",
-            f"tracedesk-send {self.name}",
-            at,
-            Answer=answers.read_object(answer.text),
-            **records.kept_of(text, size),
+        its = self.rows(
+            "SELECT answer FROM message WHERE uid = ? AND n <> ? AND answer NOT NULL",
+            unique_id,
+            number_of(name),
         )
-        self.keep_made(made, text)
-        return json.dumps({"At": at, "Id": made}) + "\n"
-
-    def keep_made(self, made: str, text: bytes) -> None:
-        """Keeps a record, by its id."""
-        write_synced(self.untraced / f"{made}.json", text)
-        sync_folder(self.untraced)
-
-    def record_old(self) -> None:
-        """Makes the records of messages that were set aside by a version that made none."""
-        for name in self.set_aside():
-            place = self.aside / f"{name}.why"
-            with contextlib.suppress(OSError, IndexError):
-                why, answer, told = self.why(name)
-                if not told and records.is_recorded(self.message(name)):
-                    text = (self.aside / f"{name}.json").read_bytes()
-                    at = records.utc(place.stat().st_mtime)
-                    line = self.keep_record(text, len(text), answer, at)
-                    write_synced(place, f"{why}\n{answer.text.decode()}\n{line}".encode())
+        return any(isinstance(answers.read(text), answers.Accepted) for (text,) in its)
 
     # --- What was sent
 
@@ -391,110 +327,169 @@ class Spool:
         """Puts each message that was sent since this second of the clock before those that wait,
         under its old name.
         """
-        with self.sending():
-            names = names_in(self.sent)
-            first = next(
-                (it for it in names if (self.sent / f"{it}.json").stat().st_ctime >= since), None
+        with self.sending(), self.whole():
+            its = self.rows(
+                "SELECT n FROM message WHERE state = 'sent' AND n >= (SELECT min(n) FROM message"
+                " WHERE state = 'sent' AND answered >= ?) ORDER BY n",
+                since,
             )
-            names = [it for it in names if first is not None and it >= first]
-            if names:
-                self.write_state(
-                    Tried=max(self.state["Tried"], int(names[-1])),
-                    Again=[int(names[0]), int(names[-1])],
-                    Answers=None,
-                )
-                self.move_back()
-        return names
+            for (n,) in its:
+                self.change("UPDATE message SET state = 'waiting', tried = 1 WHERE n = ?", n)
+        return [spelled(n) for (n,) in its]
 
-    def move_back(self) -> None:
-        if again := self.state["Again"]:
-            for name in names_in(self.sent):
-                if again[0] <= int(name) <= again[1]:
-                    os.rename(self.sent / f"{name}.json", self.waiting / f"{name}.json")
-            sync_folder(self.waiting)
-            self.kept.recount()
-            self.write_state(Again=None, Answers=None)
-
-    def sent_after(self, name: str) -> List[str]:
-        """The messages that were accepted after this one was refused."""
-        return [it for it in names_in(self.sent) if it > name]
+    def forget(self) -> None:
+        """Deletes sent messages that are older than their days, and the oldest of those that are
+        too many bytes. Both counts are of what was sent later.
+        """
+        later = (
+            "DELETE FROM message WHERE n IN (SELECT n FROM (SELECT n, answered,"
+            " sum(length(text)) OVER (ORDER BY n DESC) - length(text) AS later"
+            " FROM message WHERE state = 'sent') WHERE "
+        )
+        with self.whole():
+            old = time.time() - self.days * 86400
+            self.change(later + "later >= ? AND answered < ?)", max(1, ALWAYS_KEPT), old)
+            self.dropped_early += self.change(later + "later >= ?)", max(1, self.most))
 
     # --- What was set aside
 
-    def set_aside(self) -> List[str]:
-        """The names of the messages that were set aside, in their order."""
-        return names_in(self.aside)
+    def kept(self, name: str) -> Kept:
+        text, state, answer, archived, answered, record = self.row(name)
+        told = answers.read(answer, bool(archived)) or answers.LINE_TOO_LONG if answer else None
+        at = records.utc(answered) if answered else ""
+        return Kept(name, bytes(text), state, told, at, record)
+
+    def row(self, name: str) -> Any:
+        its = self.rows(
+            "SELECT text, state, answer, archived, answered, record FROM message WHERE n = ?",
+            number_of(name),
+        )
+        if not its:
+            raise SpoolError(f"{self.path} has no message {name}: --list all names them")
+        return its[0]
+
+    def all(self, which: str, *values: object) -> Iterator[Kept]:
+        """Messages, in their order, one at a time: they may be many bytes."""
+        for (n,) in self.rows(f"SELECT n FROM message {which} ORDER BY n", *values):
+            yield self.kept(spelled(n))
+
+    def of_uid(self, unique_id: str) -> List[Kept]:
+        """The messages of a UniqueID."""
+        return list(self.all("WHERE uid = ?", unique_id))
 
     def message(self, name: str) -> Dict[str, Any]:
-        """A message that waits, or was set aside, as far as it can be read."""
-        with contextlib.suppress(FileNotFoundError):
-            return records.as_read(self.text(name))
-        return records.as_read((self.aside / f"{name}.json").read_bytes())
+        """A message as far as it can be read."""
+        return records.as_read(self.text(name))
 
     def is_report(self, name: str) -> bool:
         """Whether a message that was set aside reports work, and so needs a decision."""
-        place = self.aside / f"{name}.json"
-        if not NAME.fullmatch(place.name) or not place.exists():
+        if name not in self.names("aside"):
             raise SpoolError(
-                f"{place} is not there: name a message of {self.aside}, or a time, as"
-                " 2026-03-02T06:00Z"
+                f"{self.path} has no message {name} that was set aside: --list aside names them. A"
+                " time is written as 2026-03-02T06:00Z"
             )
         return records.is_report(self.message(name))
 
-    def why(self, name: str) -> Tuple[str, answers.Answer, Dict[str, Any]]:
-        """Why a message was set aside, the answer, when that was, and its record's id, if any."""
-        lines = (self.aside / f"{name}.why").read_text().split("\n")
-        answer = answers.read(lines[1].encode()) or answers.LINE_TOO_LONG
-        return lines[0], answer, answers.read_object(lines[2].encode())
-
     def last_refused(self) -> Dict[str, Dict[str, Any]]:
         """Of each machine the last report of work that was refused, as a status has it."""
-        found = {}
-        for name in self.set_aside():
-            with contextlib.suppress(OSError, IndexError):
-                _, answer, told = self.why(name)
-                message = self.message(name)
-                if told and records.is_report(message):
-                    found[str(answers.body_of(message).get("Machine"))] = {
-                        "Answer": answers.read_object(answer.text),
-                        "Message": message,
-                        **told,
-                    }
-        return found
+        its = [it.refusal for it in self.all("WHERE state = 'aside' AND record <> ''")]
+        return {
+            str(answers.body_of(it["Message"]).get("Machine")): it
+            for it in its
+            if records.is_report(it["Message"])
+        }
 
     def decide(self, name: str, by: str, reason: str) -> None:
         """Keeps who decided that a report of work is sent again, and why, before it is sent."""
-        self.record_old()
-        made, text = records.record(
-            "decided",
-            by,
-            records.utc(),
-            Became="sent again",
-            Of=self.why(name)[2].get("Id"),
-            Reason=reason,
-        )
-        self.keep_made(made, text)
+        more = {"Became": "sent again", "Of": self.kept(name).record or None, "Reason": reason}
+        self.keep_made(*records.record("decided", by, records.utc(), **more))
 
     def again(self, names: Iterable[str], decided: bool = False) -> List[str]:
         """Puts messages that were set aside last; their new names. A report needs a decision."""
         found = []
-        for name in names:
-            place = self.aside / f"{name}.json"
-            if self.is_report(name) and not decided:
-                raise SpoolError(
-                    f"{place} is a report of work: it isn't sent again without a decision"
-                )
-            found.append(self.put(place.read_bytes()))
-            for it in (place, place.with_suffix(".why"), place.with_suffix(".slots")):
-                with contextlib.suppress(FileNotFoundError):
-                    it.unlink()
-            sync_folder(self.aside)
+        with self.whole():
+            for name in names:
+                if self.is_report(name) and not decided:
+                    raise SpoolError(
+                        f"message {name} is a report of work: it isn't sent again without a"
+                        " decision"
+                    )
+                found.append(self.put(self.text(name)))
+                self.drop([name])
         return found
+
+    def drop(self, names: Iterable[str]) -> None:
+        """Messages that were set aside are done with. A report that was refused stays known."""
+        with self.whole():
+            for name in names:
+                self.is_report(name)
+                self.change("UPDATE message SET state = 'dropped' WHERE n = ?", number_of(name))
+
+    def slots(self, name: str) -> str:
+        """The reels on a machine when a report of it was refused; empty if they aren't known."""
+        its = self.rows("SELECT slots FROM message WHERE n = ?", number_of(name))
+        return str(its[0][0]) if its else ""
+
+    def keep_slots(self, name: str, slots: str) -> None:
+        self.change("UPDATE message SET slots = ? WHERE n = ?", slots, number_of(name))
+
+    # --- Records that aren't handed on yet
+
+    def made(self) -> List[Tuple[str, bytes]]:
+        return [(id_, bytes(text)) for id_, text in self.rows("SELECT * FROM record ORDER BY id")]
+
+    def keep_made(self, id_: str, text: bytes) -> None:
+        self.change("INSERT OR REPLACE INTO record VALUES (?, ?)", id_, text)
+
+    def handed_on(self, id_: str) -> None:
+        self.change("DELETE FROM record WHERE id = ?", id_)
+
+    # --- Leases, and what else outlives a program
+
+    def renew(self, feeder: str) -> None:
+        """Says that who feeds the spool under this name lives. It may be called often. Where the
+        disk takes nothing the lease ends.
+        """
+        now = clock()
+        if now - self.renewed.get(feeder, -RENEWED) < RENEWED:
+            return
+        self.renewed[feeder] = now
+        with self.lock, contextlib.suppress(sqlite3.Error):
+            self.rows("PRAGMA synchronous = NORMAL")  # after a power cut nobody asks for it
+            try:
+                self.rows("INSERT OR REPLACE INTO feeder VALUES (?, ?, ?)", feeder, ahead(), now)
+            finally:
+                self.rows("PRAGMA synchronous = FULL")
+
+    def release(self, feeder: str) -> None:
+        """Says that the spool is fed no more under this name."""
+        if self.rows("SELECT 1 FROM feeder WHERE name = ?", feeder):
+            self.change("DELETE FROM feeder WHERE name = ?", feeder)
+        self.renewed.pop(feeder, None)
+
+    def feeders(self) -> Dict[str, float]:
+        """Who feeds the spool, each with when it said last that it lives: before all time, if that
+        was before this machine was started, or a clock was set since.
+        """
+        its = self.rows("SELECT name, ahead, at FROM feeder ORDER BY name")
+        is_now = {name: abs(ahead() - was) < SAME for name, was, _ in its}
+        return {name: at if is_now[name] else -float("inf") for name, _, at in its}
+
+    def recall(self, name: str) -> Any:
+        """What a program keeps here under a name; none if it kept nothing."""
+        its = self.rows("SELECT value FROM kept WHERE name = ?", name)
+        return json.loads(its[0][0]) if its else None
+
+    def remember(self, name: str, value: Any) -> None:
+        self.change("INSERT OR REPLACE INTO kept VALUES (?, ?)", name, json.dumps(value))
 
     def identity(self) -> str:
         """What no other spool has: it is in the names of files that this one takes in."""
-        place = self.folder / ".identity"
-        if not place.exists() or not re.fullmatch("[0-9a-f]{32}", place.read_text()):
-            write_synced(place, uuid.uuid4().hex.encode())
-            sync_folder(self.folder)
-        return place.read_text()
+        made = json.dumps(uuid.uuid4().hex)
+        self.change("INSERT OR IGNORE INTO kept VALUES ('identity', ?)", made)
+        return str(self.recall("identity"))
+
+
+def number_of(name: str) -> int:
+    """The number of a message; of what is no name 0, which none has."""
+    return int(name) if re.fullmatch(r"\d{1,18}", name, re.ASCII) else 0

@@ -1,29 +1,23 @@
-"""Sends the lines of one file, and adds their answers to another."""
+"""Sends the lines of one file, and adds their answers to another. It goes by a spool of its own,
+ANSWERS.spool, which stays if something in it is left for a person.
+"""
 from __future__ import annotations
 
 import argparse
-import contextlib
 import os
 import pathlib
-from typing import BinaryIO, Iterator, List
+from typing import Any, BinaryIO, List
 
 from . import answers, desk, records, sender
 from .console import tell
 from .disk import lock_alone
+from .spool import Spool
+
+ENDINGS = ("", "-wal", "-shm", ".sending")  # of the files of a spool
 
 
 class BadFile(Exception):
     """What is wrong with a file that was named."""
-
-
-@contextlib.contextmanager
-def held(path: str) -> Iterator[BinaryIO]:
-    """A file of answers, which one sender has at a time; it is made if there is none."""
-    with open(path, "a+b") as file:
-        lock_alone(
-            file.fileno(), path, "sender has it: end that one, or name another file for answers"
-        )
-        yield file
 
 
 def whole_lines(file: BinaryIO) -> List[bytes]:
@@ -56,45 +50,55 @@ def compare(messages: List[bytes], known: List[bytes]) -> None:
             )
 
 
-def send_all(
-    to: desk.Desk,
-    messages: List[bytes],
-    known: List[bytes],
-    file: BinaryIO,
-    is_tried: bool,
-    stops: bool,
-) -> int:
-    """Sends what has no answer yet, and adds each answer to the file before the next message goes
-    out; how many were mistyped.
-    """
-    mistyped = 0
-    file.truncate(sum(len(it) + 1 for it in known))  # a line that was cut goes
-    for line in messages[len(known) :]:
-        answer, is_tried = to.send(line, is_tried), False
-        is_stopped = stops and not answers.is_taken(answer)
-        if not is_stopped and isinstance(answer, answers.Ignored) and answer.is_mistyped:
-            tell(answers.why(answer))
-            mistyped += 1
-        if not is_stopped or records.is_report(records.as_read(line)):
-            file.write(answer.text + b"\n")
-            file.flush()
-            os.fsync(file.fileno())
-        if is_stopped:
-            raise sender.Stopped(answer.text.decode(errors="replace") + "\n" + answers.why(answer))
-    return mistyped
+class Answers:
+    """The file of answers, which one sender has at a time."""
+
+    def __init__(self, file: BinaryIO) -> None:
+        self.file, self.mistyped = file, 0
+
+    def add(self, answer: answers.Answer) -> None:
+        self.mistyped += isinstance(answer, answers.Ignored) and answer.is_mistyped
+        self.file.write(answer.text + b"\n")
+        self.file.flush()
+        os.fsync(self.file.fileno())
 
 
-def run(asked: argparse.Namespace, to: desk.Desk) -> int:
-    """Goes through two files. If there were answers, a run before may have sent the next
-    message.
+def fill(its: sender.Sender, lines: List[bytes], known: List[bytes], may_be_tried: bool) -> None:
+    """Has the messages without an answer wait. A run that was killed behind an answer may not have
+    kept what follows of it: that is made good.
     """
-    is_tried = os.path.exists(asked.files[1])
+    for name in its.spool.names()[:1] if known else []:
+        text, answer = its.spool.text(name), answers.read(known[-1])
+        if text == lines[len(known) - 1] and answer:
+            differs = its.compare(records.as_read(text), answer)
+            its.spool.done(name, answer, made=[(id_, made) for id_, made, _ in differs])
+    its.spool.refill(lines[len(known) :], may_be_tried)
+
+
+def run(asked: argparse.Namespace, to: desk.Desk, *places: Any, name: str = "") -> int:
+    """Goes through two files."""
+    path, is_old = asked.files[1], os.path.exists(asked.files[1])
+    is_new = not os.path.exists(f"{path}.spool")
     try:
-        with held(asked.files[1]) as file:
+        with open(path, "a+b") as file:
+            lock_alone(
+                file.fileno(),
+                f"{path}: another sender has it: end that one, or name another file for answers",
+            )
             messages, known = pathlib.Path(asked.files[0]).read_bytes(), whole_lines(file)
             lines = [it.rstrip(b"\r") for it in messages.split(b"\n") if it.strip()]
             compare(lines, known)
-            return 1 if send_all(to, lines, known, file, is_tried, asked.stop_at_refusal) else 0
+            file.truncate(sum(len(it) + 1 for it in known))  # a line that was cut goes
+            spool, kept = Spool(f"{path}.spool", name=name), Answers(file)
+            its = sender.Sender(spool, to, asked.stop_at_refusal, tell, None, None, *places)
+            its.answered = kept.add
+            fill(its, lines, known, is_old and is_new)
+            its.run()
+            is_done = not (spool.names() or spool.names("aside") or spool.made())
+            spool.close()
+            for ending in ENDINGS if is_done else ():
+                pathlib.Path(f"{path}.spool{ending}").unlink(missing_ok=True)
+            return 1 if kept.mistyped else 0
     except BadFile as fault:
-        tell(f"{asked.files[1]}: {fault}")
+        tell(f"{path}: {fault}")
         return 2

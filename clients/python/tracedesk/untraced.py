@@ -106,7 +106,7 @@ class Line:
         return (
             ""
             if self.inbox
-            else f". Its record is kept in {self.spool.untraced} until --untraced names an inbox"
+            else f". Its record is kept in {self.spool.path} until --untraced names an inbox"
         )
 
     def look(self) -> None:
@@ -133,18 +133,17 @@ class Line:
         none.
         """
         wrong: List[str] = []
-        for path in sorted(self.spool.untraced.glob("*.json")) if self.inbox else []:
-            text = path.read_bytes()
+        for id_, text in self.spool.made() if self.inbox else []:
             kind = answers.read_object(text).get("Kind")
             place = self.decisions if kind == "decided" else self.inbox
             try:
                 if place is None:
                     raise NotPut("there is no folder `decided` beside that of the records")
-                place.put(path.name, text)
-                path.unlink()
+                place.put(f"{id_}.json", text)
+                self.spool.handed_on(id_)
             except NotPut as fault:
                 what = "a decision wants a log-in of its own: " if kind == "decided" else ""
-                wrong.append(f"{path.name}: {what}{fault}")
+                wrong.append(f"{id_}.json: {what}{fault}")
         if wrong:
             raise OSError(f"{len(wrong)} records, the first {wrong[0]}")
 
@@ -152,19 +151,14 @@ class Line:
         """The status: what waits, what was set aside, the machines, and what the sender can't mend
         itself.
         """
-        names, oldest = self.spool.names(), None
-        if names:
-            try:
-                oldest = utc((self.spool.waiting / f"{names[0]}.json").stat().st_mtime)
-            except FileNotFoundError:
-                pass
+        waiting, oldest = self.spool.waiting()
         return {
             "At": utc(),
             "Period": PERIOD,
             "Sender": self.spool.name,
-            "Waiting": len(names),
-            "OldestWaiting": oldest,
-            "Aside": len(self.spool.set_aside()),
+            "Waiting": waiting,
+            "OldestWaiting": utc(oldest) if waiting else None,
+            "Aside": len(self.spool.names("aside")),
             "Fault": self.desk.fault,
             "Machines": self.interlock.told(),
         }
@@ -174,29 +168,21 @@ def shown(spool: Spool, name: str, desk: Desk) -> str:
     """What a person must see who decides about a report that was refused: what the desk accepted
     from here since, and the reels then and now.
     """
-    told, why = spool.message(name), spool.why(name)
-    machine, then = answers.body_of(told).get("Machine"), spool.aside / f"{name}.slots"
+    kept, told = spool.kept(name), spool.message(name)
+    machine, then = answers.body_of(told).get("Machine"), spool.slots(name)
+    later = [(it, spool.message(it)) for it in spool.names("sent") if it > name]
     lines = [
-        f"message {name}, refused {why[2].get('At', '')}: {brief(told)}",
-        f"  {why[0]}",
+        f"message {name}, refused {kept.answered}: {brief(told)}",
+        f"  {kept.why}",
         f"accepted for {machine} from this sender since then:",
-    ]
-    later = [
-        (it, answers.read_object((spool.sent / f"{it}.json").read_bytes()))
-        for it in spool.sent_after(name)
     ]
     lines += [
         f"  {it}: {brief(one)}"
         for it, one in later
         if answers.body_of(one).get("Machine") == machine
     ] or ["  nothing"]
-    lines += [
-        f"on {machine} when it was refused:",
-        *(then.read_text().splitlines() if then.exists() else ["  not known"]),
-        f"on {machine} now:",
-        *slots_of(desk, machine),
-    ]
-    return "\n".join(lines)
+    lines += [f"on {machine} when it was refused:", then or "  not known"]
+    return "\n".join([*lines, f"on {machine} now:", *slots_of(desk, machine)])
 
 
 def brief(told: Dict[str, Any]) -> str:

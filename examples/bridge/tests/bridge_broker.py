@@ -191,7 +191,7 @@ class RunByBroker(Run):
             or not self.is_written
             or self.answered() < len(self.wanted)
             or len(self.room.dead()) < len(self.wanted_dead)
-            or any((self.spool / "waiting").glob("*.json"))
+            or self.waits()
         ):
             return False
         time.sleep(2)

@@ -232,7 +232,7 @@ class Run(killed.Run):
             return (
                 self.is_written
                 and self.room.position() == self.file.stat().st_size
-                and not any((self.spool / "waiting").glob("*.json"))
+                and not self.waits()
             )
         return False
 

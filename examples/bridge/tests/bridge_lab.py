@@ -6,6 +6,7 @@ from __future__ import annotations
 import contextlib
 import json
 import pathlib
+import sqlite3
 import subprocess
 import sys
 import time
@@ -79,7 +80,7 @@ class Room:
     """A folder with a spool and a filter."""
 
     def __init__(self, at: pathlib.Path) -> None:
-        self.at, self.spool = at, at / "spool"
+        self.at, self.spool, self.aside = at, at / "spool", at / "spool.dead"
         self.table, self.file = at / "table.jq", at / "said.log"
         self.table.write_text(one_lane())
         self.running: Optional[subprocess.Popen[bytes]] = None
@@ -108,12 +109,18 @@ class Room:
             self.running = None
 
     def waiting(self) -> list[str]:
-        with contextlib.suppress(FileNotFoundError):
-            return [
-                str(json.loads(it.read_bytes())["UniqueID"])
-                for it in sorted((self.spool / "waiting").glob("*.json"))
-            ]
-        return []
+        return [str(json.loads(it)["UniqueID"]) for it in self.texts()]
+
+    def texts(self, state: str = "waiting") -> list[bytes]:
+        """The messages of a state, in their order."""
+        return list(at_port.texts_in(self.spool, state).values())
+
+    def move(self, number: int, state: str) -> None:
+        """What becomes of a message, as the sender keeps it; 0 is each that waits."""
+        with contextlib.closing(sqlite3.connect(self.spool, timeout=PATIENCE)) as database:
+            its = "state = 'waiting'" if number == 0 else f"n = {number}"
+            database.execute(f"UPDATE message SET state = ? WHERE {its}", [state])
+            database.commit()
 
     def wait_for(self, wanted: list[str]) -> None:
         end = time.monotonic() + PATIENCE
@@ -123,9 +130,9 @@ class Room:
 
     def position(self) -> Optional[int]:
         """How far the bridge has kept that the file was read; none where it has kept nothing."""
-        with contextlib.suppress(FileNotFoundError, ValueError, LookupError):
-            told = json.loads((self.spool / ".position").read_text())
-            return int(told[str(self.file)]["Files"][-1]["At"])
+        its = at_port.rows_in(self.spool, "SELECT value FROM kept WHERE name = 'position'")
+        with contextlib.suppress(LookupError):
+            return int(json.loads(its[0][0])[str(self.file)]["Files"][-1]["At"])
         return None
 
     def wait_until_at(self, place: int) -> None:
@@ -137,4 +144,4 @@ class Room:
             time.sleep(0.02)
 
     def dead(self) -> list[bytes]:
-        return [it.read_bytes() for it in sorted((self.spool / "dead").glob("*.json"))]
+        return [it.read_bytes() for it in sorted(self.aside.glob("*.json"))]

@@ -10,7 +10,7 @@ from typing import Any, Iterator
 
 import filters
 import pytest
-from at_port import PATIENCE
+from at_port import PATIENCE, rows_in
 from bridge_lab import EXAMPLE, Room, elements_of, line_of, one_lane, ours, said
 from filters import BadFilter, Filter, NotMapped
 from fronts import json_records
@@ -298,7 +298,7 @@ def test_a_dead_letter_that_is_a_report_has_a_record(room: Room) -> None:
     done = room.run(given=given, status=1)
     assert done.stdout.count(b"dead ") == 5
     assert len(room.dead()) == 4
-    told = [json.loads(it.read_bytes()) for it in (room.spool / "untraced").iterdir()]
+    told = [json.loads(it) for (it,) in rows_in(room.spool, "SELECT text FROM record")]
     raw = sorted(base64.b64decode(it["Raw"]) for it in told)
     assert raw == sorted([start, twice, b"{"])
     assert {it["Answer"]["Answer"] for it in told} == {"NotMapped"}

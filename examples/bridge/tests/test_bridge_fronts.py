@@ -123,7 +123,7 @@ def test_rows_of_a_file_that_grows_are_records(room: Room) -> None:
         file.write(f"{row(2)}\nB-3;C1\n{row(3)[:9]}")
     done = room.run(*words, room.file, status=1)
     assert b"2 dead" in done.stderr
-    why = sorted(it.read_text() for it in (room.spool / "dead").glob("*.why"))
+    why = sorted(it.read_text() for it in room.aside.glob("*.why"))
     assert "said.log: line 4: it has 2 fields, and the heading has 4\n" in why
     with open(room.file, "a") as file:
         file.write(f"{row(3)[9:]}\n")
@@ -132,7 +132,7 @@ def test_rows_of_a_file_that_grows_are_records(room: Room) -> None:
     room.file.write_text(f"Board;Time;Reel;Designator\nB-4;2026-03-02 07:04:00;K-1;C1\n{row(5)}\n")
     room.run(*words, room.file, status=1)
     assert room.waiting() == ["B-1-C1", "B-2-C1", "B-3-C1", "B-4-C1"]
-    told = json.loads((room.spool / "waiting/000000000001.json").read_bytes())
+    told = json.loads(room.texts()[0])
     assert told["TimeStamp"] == "2026-03-02T06:01:00Z"
 
 
@@ -171,7 +171,7 @@ def test_files_of_a_folder_are_records(room: Room) -> None:
     assert b"5 read, 4 put in, 0 there already, 2 dead" in done.stderr, done.stderr
     assert room.waiting() == ["X-C1", "B-3-C1", "B-4-C1", "L-C1"]
     assert sorted(it.name for it in folder.iterdir()) == ["5.txt", "taken"]
-    why = sorted(it.read_text() for it in (room.spool / "dead").glob("*.why"))
+    why = sorted(it.read_text() for it in room.aside.glob("*.why"))
     assert why[0].startswith("1.json: 'J-null': what isn't there became the text null")
     assert why[1] == "4.csv: line 3: it has 1 fields, and the heading has 4\n"
     put_file(folder, "3.csv", f"{HEADING}\n{row(3)}\n{row(4)}\n", 70)

@@ -7,15 +7,15 @@ import gzip
 import json
 import pathlib
 import re
-import shutil
 import subprocess
 import time
 import types
-from typing import Any
+from typing import Any, Callable
 
 import brokers
 import logs
 import pytest
+from at_port import PATIENCE, rows_in
 from bridge_lab import Room, line_of, one_lane, said, start
 
 
@@ -57,7 +57,7 @@ def test_each_line_of_standard_input_is_answered(room: Room) -> None:
 
 def test_what_is_given_twice_is_put_in_once(room: Room) -> None:
     room.run(given=start("a") + b"\n" + start("b"))
-    (room.spool / "waiting/000000000001.json").rename(room.spool / "aside/000000000001.json")
+    room.move(1, "aside")
     done = room.run(
         given=start("a") + b"\n" + start("b") + b"\n" + start("b", PrimaryIdentifier="SN-other")
     )
@@ -144,24 +144,40 @@ def test_a_gap_is_reported_once(room: Room) -> None:
     room.run(room.file)
 
 
-@pytest.mark.parametrize(
-    "harm",
-    [
-        "",
-        "{",
-        "[]",
-        '{"F":[1]}',
-        '{"F":[{"At":5}]}',
-        '{"F":{"Files":[{"At":"x","Before":"y","Head":"z","Inode":1}],"Known":[]}}',
-        '{"F":{"Files":[]}}',
-    ],
-)
-def test_a_damaged_position_ends_the_run(room: Room, harm: str) -> None:
-    """Nothing is guessed."""
-    room.file.write_bytes(start("c") + b"\n")
+def lease(room: Room) -> float:
+    """When the bridge said last that it lives; 0 where it didn't."""
+    its = rows_in(room.spool, "SELECT at FROM feeder WHERE name = 'the bridge'")
+    return float(its[0][0]) if its else 0.0
+
+
+def test_a_bridge_holds_a_lease_while_it_hears_the_machine(room: Room) -> None:
+    """From when its file is there until it is killed. One that reads a file to its end is no voice
+    of a machine.
+    """
+    room.follow()
+    room.wait_for([])
+    time.sleep(2)
+    assert lease(room) == 0
+    room.file.write_bytes(start("a") + b"\n")
+    room.wait_for(["a"])
+    until(lambda: lease(room) > 0)
+    before = lease(room)
+    until(lambda: lease(room) > before)
+    room.end()
+    before = lease(room)
     room.run(room.file)
-    (room.spool / ".position").write_text(harm.replace("F", str(room.file), 1))
-    assert b".position is damaged" in room.run(room.file, status=2).stderr
+    assert lease(room) == before
+    stream = subprocess.Popen(room.command(), stdin=subprocess.PIPE, stderr=subprocess.DEVNULL)
+    until(lambda: lease(room) > before)
+    stream.kill()
+    stream.communicate()
+
+
+def until(call: Callable[[], bool]) -> None:
+    end = time.monotonic() + PATIENCE
+    while not call():
+        assert time.monotonic() < end
+        time.sleep(0.05)
 
 
 def test_what_passes_is_waited_out(room: Room) -> None:
@@ -175,7 +191,7 @@ def test_what_passes_is_waited_out(room: Room) -> None:
     told += room.running.stderr.readline()  # it says that the folder is full
     assert room.dead() == [b"{1\n", b"{2\n"]
     assert room.waiting() == []
-    for it in (room.spool / "dead").iterdir():
+    for it in room.aside.iterdir():
         it.unlink()
     room.wait_for(["a"])
     assert room.dead() == [b"{3\n"]
@@ -186,8 +202,8 @@ def test_what_passes_is_waited_out(room: Room) -> None:
 
 
 def test_a_refused_report_of_work_is_not_put_in_again(room: Room) -> None:
-    """Not even by another table, and once its copies are deleted; a request that was refused may
-    be.
+    """Not even by another table, and once somebody has dropped it; a request that was refused may
+    be, with other bytes.
     """
     load_too = """if .MessageName == "load" then {MessageName: "TraceDesk.MaterialsLoaded", UniqueID,
       Source, TimeStamp, MessageBody: {Machine: "M1", Slot: "1", Reel: .MessageBody.Reel}} else"""
@@ -195,14 +211,13 @@ def test_a_refused_report_of_work_is_not_put_in_again(room: Room) -> None:
     load = line_of(said("load", "l", Reel="K-1"))
     room.table.write_text(table)
     room.run(given=start("a") + b"\n" + load + b"\n")
-    for number in (1, 2):
-        for kept in (f"aside/00000000000{number}.json", f"sent/00000000000{number}.refused"):
-            shutil.copy(room.spool / f"waiting/00000000000{number}.json", room.spool / kept)
-        (room.spool / f"waiting/00000000000{number}.json").unlink()
+    room.move(0, "aside")
     room.run(given=start("a") + b"\n")
-    for it in (*(room.spool / "aside").iterdir(), *(room.spool / "sent").iterdir()):
-        it.unlink()
-    room.table.write_text(table.replace('machine: "M1"', 'machine: "M3"'))
+    room.move(1, "dropped")
+    mended = table.replace('machine: "M1"', 'machine: "M3"').replace('Slot: "1"', 'Slot: "2"')
+    done = room.run(given=start("a") + b"\n" + load + b"\n")
+    assert done.stdout == b"kept 000000000001\nkept 000000000002\n"
+    room.table.write_text(mended)
     done = room.run(given=start("a") + b"\n" + load + b"\n")
     assert done.stdout == b"kept 000000000001\nkept 000000000003\n"
     assert room.waiting() == ["l"]
@@ -225,10 +240,7 @@ def test_numbers_that_others_round_keep_their_digits(room: Room) -> None:
     done = room.run(given=b"\n".join(named), status=1)
     got = [it.split()[0] for it in done.stdout.decode().splitlines()]
     assert got == ["kept"] * len(numbers) + ["dead"] * len(wrong)
-    boards = [
-        json.loads(it.read_bytes())["MessageBody"]["Board"]
-        for it in sorted((room.spool / "waiting").iterdir())
-    ]
+    boards = [json.loads(it)["MessageBody"]["Board"] for it in room.texts()]
     assert boards == [f"{it.decode()}-1".replace("17.0", "17") for it in numbers]
 
 

@@ -3,12 +3,11 @@ python3-paho-mqtt.
 """
 from __future__ import annotations
 
-import json
 import subprocess
 import time
 
 import pytest
-from at_port import PATIENCE
+from at_port import PATIENCE, rows_in
 from bridge_lab import Room, line_of, said, start
 from bridge_mosquitto import Mosquitto
 from station_site import certificate
@@ -29,15 +28,14 @@ def follow(room: Room, broker: Mosquitto) -> None:
 
 def answer(room: Room) -> int:
     """Answers what waits, as the sender does; how many these are."""
-    its = sorted((room.spool / "waiting").glob("*.json"))
-    for it in its:
-        it.rename(room.spool / "sent" / it.name)
-    return len(its)
+    count = len(room.waiting())
+    room.move(0, "sent")
+    return count
 
 
 def everything(room: Room) -> list[str]:
-    its = [it for name in ("sent", "waiting") for it in (room.spool / name).glob("*.json")]
-    return [json.loads(it.read_bytes())["UniqueID"] for it in sorted(its, key=lambda it: it.name)]
+    its = rows_in(room.spool, "SELECT uid FROM message ORDER BY n")
+    return [uid for (uid,) in its]
 
 
 def test_a_bridge_or_a_broker_killed_at_each_record_loses_and_doubles_none(room: Room) -> None:

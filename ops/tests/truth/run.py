@@ -162,7 +162,7 @@ class Run:
     def taken_off(self) -> None:
         """Somebody decides of the refused reel that it was taken off."""
         kept = self.sources["tablet"].spool
-        refused = kept.why(kept.set_aside()[-1])[2]["Id"]
+        refused = kept.kept(kept.names("aside")[-1]).record
         more = {"Became": story.TAKEN_OFF, "Of": refused, "Reason": "saw it"}
         name, text = records.record("decided", "A. Person", Clock.text(), **more)
         if self.inbox.beside:
@@ -258,9 +258,9 @@ class Run:
         machine = self.sources["machine"].spool
         if self.planted:
             for name, source in self.sources.items():
-                source.spool.again(source.spool.set_aside(), decided=True)
+                source.spool.again(source.spool.names("aside"), decided=True)
                 self.send(name)
-        elif names := [name for name in machine.set_aside() if machine.is_report(name)]:
+        elif names := [name for name in machine.names("aside") if machine.is_report(name)]:
             machine.decide(names[-1], "A. Person", "looked at the board")
         if self.random.random() < 0.3:
             self.send_request_again()
@@ -268,7 +268,7 @@ class Run:
     def send_request_again(self) -> None:
         """The slot has to be as the request says."""
         tablet = self.sources["tablet"].spool
-        if names := tablet.set_aside():
+        if names := tablet.names("aside"):
             body = tablet.message(names[-1])["MessageBody"]
             if body.get("Reel") in self.slots.get(body.get("Slot"), ()):
                 tablet.again(names[-1:])

@@ -5,16 +5,12 @@ import pathlib
 from typing import Any, Optional
 
 from tracedesk import desk as desks
-from tracedesk import disk, interlock, scans, sender, spool
+from tracedesk import interlock, scans, sender, spool
 from tracedesk import untraced as places
 from truth.world import Killed, Killer
 
 
-def board_of(folder: pathlib.Path, name: str) -> tuple[str, Optional[str]]:
-    told = json.loads((folder / f"{name}.json").read_bytes())
-    return told["MessageName"], told["MessageBody"].get("Board")
-
-
+START = "TraceDesk.WorkStarted"
 STATUS = {"Accepted": 200, "Refused": 409, "Faulty": 422}
 DAY = "2026-03-02.jsonl"
 
@@ -92,6 +88,8 @@ class Source:
         out has seen what waits."""
         if self.sender is None:
             return False
+        self.spool.renew("machine")
+        self.sender.interlock.look_at_feeders()
         self.sender.interlock.look_ahead(self.spool.names())
         self.looks.look()
         self.sender.asker.ask()
@@ -100,21 +98,20 @@ class Source:
     def start_of(self, board: str) -> str:
         """The message by which the desk accepted the start of a board, if it did, by what is in the
         spool."""
-        sent, wanted = self.spool.sent, ("TraceDesk.WorkStarted", board)
-        names = reversed(disk.names_in(sent))
-        return next((name for name in names if board_of(sent, name) == wanted), "")
+        for name in reversed(self.spool.names("sent")):
+            told = self.spool.message(name)
+            if (told["MessageName"], told["MessageBody"].get("Board")) == (START, board):
+                return name
+        return ""
 
     def open_slots(self, slots: set[str]) -> set[str]:
         """The slots of which the last scan was refused, from what they were before the last one
         that was looked at.
         """
-        answered = {name: self.spool.sent for name in disk.names_in(self.spool.sent)}
-        answered.update({name: self.spool.aside for name in disk.names_in(self.spool.aside)})
-        for name in sorted(name for name in answered if name > self.looked_at):
-            told = json.loads((answered[name] / f"{name}.json").read_bytes())["MessageBody"]
-            slots = slots | {told["Slot"]}
-            if answered[name] == self.spool.sent:
-                slots = slots - {told["Slot"]}
+        sent = self.spool.names("sent")
+        for name in sorted(it for it in [*sent, *self.spool.names("aside")] if it > self.looked_at):
+            slot = {self.spool.message(name)["MessageBody"]["Slot"]}
+            slots = slots - slot if name in sent else slots | slot
             self.looked_at = name
         return slots
 
@@ -122,7 +119,7 @@ class Source:
         """Whether the desk has accepted no start of a board, or refused something since that
         message.
         """
-        aside = disk.names_in(self.spool.aside)
+        aside = self.spool.names("aside")
         return not self.start_of(board) or any(name > since for name in aside)
 
     def end(self) -> None:
@@ -133,4 +130,4 @@ class Source:
     def accepted(self) -> bool:
         """Whether the last message was accepted, as the machine or the operator sees it: not where
         there is no answer."""
-        return (self.spool.sent / f"{self.last}.json").exists()
+        return self.last in self.spool.names("sent")

@@ -69,6 +69,7 @@ def simulated() -> Iterator[None]:
             (places.Line, "begin", lambda _: None),
             # Nobody reads a status here, and each send would read all that was set aside.
             (spool.Spool, "last_refused", lambda _: {}),
+            (spool.Spool, "whole", Killer.counted(spool.Spool.whole)),
         ):
             held.enter_context(mock.patch.object(owner, name, its))
         yield

@@ -1,0 +1,125 @@
+"""What a person does with a spool: puts messages in, looks at them, and has them sent again."""
+from __future__ import annotations
+
+import argparse
+import datetime
+import hashlib
+import json
+import re
+import sys
+from typing import Any, Callable, Dict, List
+
+from . import answers, desk, disk, spool, untraced
+from .console import say, tell
+
+STATES = ("waiting", "sent", "aside", "dropped")  # of messages
+TIME = re.compile(r"\d{4}-\d\d-\d\d[Tt]\d\d:\d\d.*")
+
+
+def put(into: spool.Spool, file: str) -> int:
+    with open(sys.stdin.fileno() if file == "-" else file, "rb", closefd=file != "-") as stream:
+        count = sum(bool(into.put(it)) for it in disk.lines_of(stream))
+    say(f"{count} put into {into.path}, {len(into.names())} wait")
+    return 0
+
+
+def listed(into: spool.Spool, state: str) -> int:
+    """Prints the messages of a state, each as a line of JSON with its answer."""
+    which = "" if state == "all" else "WHERE state = ?"
+    for it in into.all(which, *([state] if which else [])):
+        told: Dict[str, Any] = {}
+        if it.answer:
+            told["Answer"] = answers.read_object(it.answer.text)
+            told.update({"Archived": True} if answers.is_archived(it.answer) else {})
+        told["Message"] = it.name
+        told.update({"Why": it.why} if it.why else {})
+        say(json.dumps(told, separators=(",", ":")))
+    return 0
+
+
+def show(into: spool.Spool, names: List[str]) -> int:
+    """Prints messages as they are: by their names, or those of a state."""
+    for name in into.names(names[0]) if names[0] in STATES else names:
+        sys.stdout.buffer.write(into.text(name) + b"\n")
+    sys.stdout.flush()
+    return 0
+
+
+def give_up(into: spool.Spool, names: List[str], feeders: List[str]) -> int:
+    """Is done with messages that were set aside, and with who feeds the spool no more."""
+    into.drop(names)
+    for it in feeders:
+        into.release(it)
+    return 0
+
+
+def moment(text: str) -> float:
+    """A second of the clock."""
+    try:
+        at = datetime.datetime.fromisoformat(re.sub("[Zz]$", "+00:00", text))
+    except ValueError:
+        raise disk.SpoolError(f"{text} is no time, as 2026-03-02T06:00Z") from None
+    if at.tzinfo is None:
+        raise disk.SpoolError(
+            f"{text} has no offset: a time is spelled as 2026-03-02T06:00Z or"
+            " 2026-03-02T07:00+01:00"
+        )
+    return at.timestamp()
+
+
+def again(asked: argparse.Namespace, into: spool.Spool, desk_of: Callable[[], desk.Desk]) -> int:
+    names: List[str] = asked.again
+    if len(names) == 1 and TIME.fullmatch(names[0]):
+        found = into.again_since(moment(names[0]))
+        say(
+            f"{len(found)} wait again, before those that wait"
+            + (
+                f": {found[0]} to {found[-1]}"
+                if found
+                else f": {into.path} has none that was sent since then"
+            )
+        )
+        return 0
+    names = into.names("aside") if names == ["all"] else names
+    reports = [it for it in names if into.is_report(it)]
+    if asked.by and reports:
+        if asked.seen != shown_code(asked.seen, into, reports, desk_of):
+            return 6
+        for it in reports:
+            into.decide(it, asked.by, asked.reason)
+        reports = []
+    found = into.again((it for it in names if it not in reports), decided=bool(asked.by))
+    say(f"{len(found)} wait again{', as ' + ' '.join(found) if found else ''}")
+    for it in reports:
+        tell(
+            f"message {it} is a report of work, and is not sent again:"
+            f" {untraced.brief(into.message(it))} was {answers.short(refusal_of(into, it))}"
+        )
+    if reports:
+        tell(
+            f"{len(reports)} reports of work stay in {into.path}: the boards are untraced work."
+            " Decide about each by tracedesk-untraced. To send one again all the same, name it,"
+            " with --by and --reason"
+        )
+    return 6 if reports else 0
+
+
+def refusal_of(into: spool.Spool, name: str) -> answers.Answer:
+    return into.kept(name).answer or answers.LINE_TOO_LONG
+
+
+def shown_code(
+    seen: str, into: spool.Spool, names: List[str], desk_of: Callable[[], desk.Desk]
+) -> str:
+    """Shows what who decides must see, and returns its code: it changes with what is shown."""
+    with desk_of() as to:
+        shown = "\n".join(untraced.shown(into, it, to) for it in names)
+    code = hashlib.sha256(shown.encode()).hexdigest()[:8]
+    if seen != code:
+        say(shown)
+        tell(
+            "nothing is sent"
+            + (": what is shown has changed" if seen else "")
+            + f". If the reels are those of the work, decide by the same command with --seen {code}"
+        )
+    return code
