@@ -43,3 +43,10 @@ export function shown(milliseconds) {
   return `${String(time.getHours()).padStart(2, "0")}:${
     String(time.getMinutes()).padStart(2, "0")}`;
 }
+
+/** The date where the tablet stands, as 2026-03-02. */
+export function day(milliseconds) {
+  const time = new Date(milliseconds);
+  const two = (number) => String(number).padStart(2, "0");
+  return `${time.getFullYear()}-${two(time.getMonth() + 1)}-${two(time.getDate())}`;
+}

@@ -8,7 +8,7 @@ import { TEXTS } from "./words.js";
 export function dayAnd(time) {
   const day = new Date(time).toDateString() === new Date(clock.now() ?? time).toDateString()
     ? ""
-    : `${new Date(time).toISOString().slice(0, 10)} `;
+    : `${clock.day(time)} `;
   return `${day}${clock.shown(time)}`;
 }
 

@@ -25,14 +25,15 @@ function loadText({ part, reel }) {
 
 /** What the desk said where it refused, in words. */
 function refusalText({ refusal, reel, board }) {
-  const [title] = TEXTS.refusals[refusal] ?? [refusal ?? ""];
+  const [title] = TEXTS.refusals[refusal] ?? [refusal ?? TEXTS.machine.aScan];
   return said(title, { at: reel ?? board ?? "" });
 }
 
 /** Why a machine is stopped. */
 function whyText(it, load) {
   const { cause, slot, reel, board, reason } = it;
-  const text = TEXTS.machine.causes[cause];
+  const name = cause === "slot" && load.isSplice ? "slotSplice" : cause;
+  const text = TEXTS.machine.causes[name];
   const isWhole = text && (!OF_A_SLOT.includes(cause) || slot) && (cause !== "expired" || reel);
   if (!isWhole) {
     return reason ?? "";

@@ -60,7 +60,7 @@ export class Model {
     this.overdue = null;
     this.overdueHad = null;
     this.parts = new Map(); // of reels, as the desk's reports told them
-    this.answers = new Map(); // of slots: what the last answer to a scan said, {isLive, at}
+    this.answers = new Map(); // of slots: what the last answer to a scan said, {isLive, reel, at}
     this.unfit = new Set(); // own parts of reels that were refused for a slot's part
     this.selected = {}; // of each machine: what this station's accepted selection said
     this.state = { had: null, age: null, at: 0, old: false, ok: false, status: 0 };
@@ -169,10 +169,14 @@ export class Model {
     }
   }
 
-  /** What to load on the slot that stops a machine: {part, reel}, each of which may be null. */
+  /**
+   * What to load on the slot that stops a machine: {part, reel}, each of which may be null; or to
+   * splice, where the slot has a live reel.
+   */
   loadFor({ machine, slot, cause, reel }) {
-    return this.loads.get(JSON.stringify([machine, slot, cause, reel])) ??
+    const load = this.loads.get(JSON.stringify([machine, slot, cause, reel])) ??
       { part: this.slot(machine, slot).part, reel: null };
+    return { ...load, isSplice: Boolean(slot && this.line(machine)) && this.isLive(machine, slot) };
   }
 
   /** The number of the server's period: it changes at the same moment at every station. */
@@ -314,6 +318,16 @@ export class Model {
     };
   }
 
+  /** The slots of a machine as the desk says them now; null where it doesn't answer. */
+  async slotsNow(machine) {
+    try {
+      const { rows, old } = await desk.rows("slots", { machine });
+      return old ? null : rows;
+    } catch {
+      return null;
+    }
+  }
+
   /** The slot that a reel is on, by the slot lists; or null. */
   place(reel) {
     const line = this.lines.find((it) => it.slots?.some((on) => on.reel === reel));
@@ -330,7 +344,8 @@ export class Model {
       ? { MaterialsLoaded: true, MaterialsSpliced: true, MaterialsUnloaded: false }[word]
       : { SlotTaken: true, SlotEmpty: false }[answer.Refusal];
     if (body.Slot && isLive !== undefined) {
-      this.answers.set(JSON.stringify([body.Machine, body.Slot]), { isLive, at: clock.now() });
+      const said = { isLive, reel: body.Reel, at: clock.now() };
+      this.answers.set(JSON.stringify([body.Machine, body.Slot]), said);
     }
   }
 
@@ -340,6 +355,13 @@ export class Model {
     return said && !(this.line(machine).had > said.at)
       ? said.isLive
       : this.slot(machine, slot).reels.length > 0;
+  }
+
+  /** Whether a reel is on a slot, by the last slot list or by an answer to a scan of here. */
+  isOn(machine, slot, reel) {
+    const said = this.answers.get(JSON.stringify([machine, slot]));
+    const isSaid = Boolean(said?.isLive) && said.reel === reel;
+    return isSaid || this.slot(machine, slot).reels.some((it) => it.reel === reel);
   }
 
   /** The card of a reel, or null where the desk does not tell it. */

@@ -183,7 +183,7 @@ export class Scan {
     } else if (this.action) {
       this.station.fault(said(TEXTS.strip.actionSlot, { action: TEXTS.actions[this.action] }));
     } else if (this.slot) {
-      return this.act(this.isLive(this.slot) ? "SPLICE" : "LOAD", { ...this.slot, reel });
+      return this.mounted({ ...this.slot, reel });
     } else {
       this.clear();
       this.reel = reel;
@@ -192,12 +192,46 @@ export class Scan {
   }
 
   /**
+   * A reel for a slot. One that is on that slot already, by what the page knows, is verified: the
+   * desk is asked for its slots anew, and nothing is sent.
+   */
+  async mounted({ machine, slot, reel }) {
+    const on = { machine, slot };
+    const { model, verdict } = this.station;
+    if (!model.isOn(machine, slot, reel) || this.about(on).length) {
+      return this.act(this.isLive(on) ? "SPLICE" : "LOAD", { ...on, reel });
+    }
+    this.clear();
+    const rows = await model.slotsNow(machine);
+    const row = rows?.find((it) => it.slot === slot && it.reel === reel);
+    if (rows && !row) {
+      return this.act(rows.some((it) => it.slot === slot) ? "SPLICE" : "LOAD", { ...on, reel });
+    }
+    const { part } = model.slot(machine, slot);
+    const values = { ...on, reel, own: row?.part, wanted: part };
+    if (!row || ["0", "unbaked"].includes(row.minutes_left) || (part && part !== row.part)) {
+      const { verify } = TEXTS.fault;
+      const text = !row ? verify.noAnswer : part && part !== row.part ? verify.part : verify.life;
+      this.station.fault(said(text, values));
+    } else {
+      verdict.verified({ ...row, machine });
+    }
+    return null;
+  }
+
+  /** The scans of a slot that the desk has not answered. */
+  about({ machine, slot }) {
+    return this.station.waiting.filter(
+      (it) => it.body.Machine === machine && it.body.Slot === slot,
+    );
+  }
+
+  /**
    * Whether a slot has a live reel: by what the desk said last, and by the scans that it has not
    * answered.
    */
   isLive({ machine, slot }) {
-    const about =
-      this.station.waiting.filter((it) => it.body.Machine === machine && it.body.Slot === slot);
+    const about = this.about({ machine, slot });
     for (const it of about.reverse()) {
       if (["MaterialsLoaded", "MaterialsSpliced", "MaterialsUnloaded"].includes(it.word)) {
         return it.word !== "MaterialsUnloaded";

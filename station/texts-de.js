@@ -84,18 +84,21 @@ export const TEXTS = {
     atSlot: "Platz {slot}:",
     another: "eine andere Rolle",
     anotherOf: "eine Rolle {part}",
+    aScan: "ein Scan wurde abgelehnt",
     causes: {
       idle: "keine Baugruppe gestartet",
       waiting: "wartet auf die Antwort des Desks",
       refused: "{board} abgelehnt: {refusal}",
       slot: "Platz {slot}: {refusal}. {reel} abnehmen, {load} rüsten",
+      slotSplice:
+        "Platz {slot}: {refusal}. {reel} abnehmen. {load} ANSPLEISSEN, wenn der Gurt davor endet",
       empty: "Platz {slot} ist leer: {load} rüsten",
       expired: "Platz {slot}, {reel} abgelaufen: abrüsten, {load} rüsten",
       unbaked: "Platz {slot}, {reel} nicht getrocknet: abrüsten, {load} rüsten",
       differs:
         "{board}: Die Maschine nahm {reel}, der Desk hat dort eine andere Rolle. Qualität rufen",
       "not-in-work": "{board} ist hier nicht in Arbeit. Neu starten",
-      silent: "Der Desk antwortet nicht",
+      silent: "Der Desk oder die Maschine ist nicht zu hören. {reason}",
       fault: "Der Sender hat einen Fehler. {reason}",
       ended: "Der Sender ist beendet. Linienführer rufen",
     },
@@ -175,6 +178,10 @@ export const TEXTS = {
     question: "SIND SIE SICHER?",
     yes: "JA (ENTER)",
     no: "NEIN (ABBRECHEN)",
+    verified: "GEPRÜFT",
+    verifiedFacts:
+      "{part}, Charge {lot}, {left} {left|Teil|Teile}, wie der Desk es hat. Nichts wurde " +
+      "gesendet",
     asked: "GEFRAGT, NOCH KEINE ANTWORT",
     askedLoad: "NICHT GEPRÜFT: Diesen Platz nicht laufen lassen, bis der Desk Ja sagt.",
     askedWhat:
@@ -259,6 +266,15 @@ export const TEXTS = {
     hours: "{hours} h {minutes} min",
   },
   fault: {
+    verify: {
+      noAnswer:
+        "NICHT geprüft: Der Desk hat nicht geantwortet. Platz und Rolle noch einmal scannen",
+      life:
+        "{reel} ist auf {machine} Platz {slot}, aber abgelaufen oder nicht getrocknet. ABRÜSTEN",
+      part:
+        "{reel} ist auf {machine} Platz {slot}, mit {own}, aber der Rüstplan nennt {wanted}. " +
+        "Nur als erlaubte Alternative richtig: Linienführer rufen",
+    },
     foreign: "{text} ist ein Platz keiner Maschine dieser Linie.",
     fragment: "{text} ist nur der Anfang eines Codes. Noch einmal scannen.",
     none: "{text} kann kein Name sein: 1 bis 64 einfache Buchstaben, Ziffern und Zeichen.",

@@ -81,17 +81,20 @@ export const TEXTS = {
     atSlot: "posición {slot}:",
     another: "otro rollo",
     anotherOf: "un rollo de {part}",
+    aScan: "un escaneo fue rechazado",
     causes: {
       idle: "ninguna placa iniciada",
       waiting: "espera la respuesta del desk",
       refused: "{board} rechazada: {refusal}",
       slot: "posición {slot}: {refusal}. Quite {reel}, cargue {load}",
+      slotSplice:
+        "posición {slot}: {refusal}. Quite {reel}. EMPALME {load} cuando acabe la cinta actual",
       empty: "posición {slot} vacía: cargue {load}",
       expired: "posición {slot}, {reel} caducado: descárguelo, cargue {load}",
       unbaked: "posición {slot}, {reel} sin hornear: descárguelo, cargue {load}",
       differs: "{board}: la máquina tomó {reel}, que el desk no tiene ahí. Llame a Calidad",
       "not-in-work": "{board} no está en curso aquí. Iníciela de nuevo",
-      silent: "el desk no responde",
+      silent: "no se oye al desk o a la máquina. {reason}",
       fault: "el emisor tiene un fallo. {reason}",
       ended: "el emisor terminó. Llame al jefe de línea",
     },
@@ -170,6 +173,9 @@ export const TEXTS = {
     question: "¿ESTÁ SEGURO?",
     yes: "SÍ (ENTER)",
     no: "NO (CANCELAR)",
+    verified: "VERIFICADO",
+    verifiedFacts:
+      "{part}, lote {lot}, {left} {left|pieza|piezas}, según el desk. No se envió nada",
     asked: "PREGUNTADO, AÚN SIN RESPUESTA",
     askedLoad: "NO VERIFICADO: no use esta posición hasta que el desk diga sí.",
     askedWhat:
@@ -251,6 +257,13 @@ export const TEXTS = {
     hours: "{hours} h {minutes} min",
   },
   fault: {
+    verify: {
+      noAnswer: "NO verificado: el desk no respondió. Escanee otra vez la posición y el rollo",
+      life: "{reel} está en {machine} posición {slot}, pero caducado o sin hornear. DESCÁRGUELO",
+      part:
+        "{reel} está en {machine} posición {slot}, de {own}, pero la hoja nombra {wanted}. Solo " +
+        "vale como alternativa: llame al jefe de línea",
+    },
     foreign: "{text} no es posición de ninguna máquina de esta línea.",
     fragment: "{text} es solo el principio de un código. Escanéelo otra vez.",
     none: "{text} no puede ser un nombre: de 1 a 64 letras simples, cifras y signos.",

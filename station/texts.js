@@ -83,17 +83,20 @@ export const TEXTS = {
     atSlot: "slot {slot}:",
     another: "another reel",
     anotherOf: "a reel of {part}",
+    aScan: "a scan was refused",
     causes: {
       idle: "no board is started",
       waiting: "waits for the desk's answer",
       refused: "{board} refused: {refusal}",
       slot: "slot {slot}: {refusal}. Take {reel} off, load {load}",
+      slotSplice:
+        "slot {slot}: {refusal}. Take {reel} off. SPLICE {load} when the tape in front ends",
       empty: "slot {slot} is empty: load {load}",
       expired: "slot {slot}, {reel} expired: unload it, load {load}",
       unbaked: "slot {slot}, {reel} is not baked: unload it, load {load}",
       differs: "{board}: the machine took {reel}, which the desk does not have there. Call Quality",
       "not-in-work": "{board} is not in work here. Start it anew",
-      silent: "the desk does not answer",
+      silent: "the desk or the machine is not heard. {reason}",
       fault: "the sender has a fault. {reason}",
       ended: "the sender has ended. Call the line leader",
     },
@@ -164,6 +167,9 @@ export const TEXTS = {
     question: "ARE YOU SURE?",
     yes: "YES (ENTER)",
     no: "NO (CANCEL)",
+    verified: "VERIFIED",
+    verifiedFacts:
+      "{part}, lot {lot}, {left} {left|piece|pieces}, as the desk has it. Nothing was sent",
     asked: "ASKED, NO ANSWER YET",
     askedLoad: "NOT VERIFIED: don't run this slot before the desk says yes.",
     askedWhat: "This is no yes. Wait here: the scan is kept, and is sent until the desk answers.",
@@ -244,6 +250,15 @@ export const TEXTS = {
     hours: "{hours} h {minutes} min",
   },
   fault: {
+    verify: {
+      noAnswer: "NOT verified: the desk did not answer. Scan the slot and the reel again",
+      life:
+        "{reel} is on {machine} slot {slot}, but its floor life is over or it is not baked. " +
+        "UNLOAD it",
+      part:
+        "{reel} is on {machine} slot {slot}, of {own}, but the sheet names {wanted}. Right only " +
+        "if it is an alternate: call the line leader",
+    },
     foreign: "{text} is a slot of no machine of this line.",
     fragment: "{text} is only the beginning of a code. Scan it again.",
     none: "{text} can't be a name: it has to be 1 to 64 plain letters, digits and signs.",

@@ -129,6 +129,12 @@ export class Verdict {
     play("refused");
   }
 
+  /** The desk just said that a reel is on its slot: nothing was sent. */
+  verified(row) {
+    this.tell({ verified: row });
+    play("accepted");
+  }
+
   /** Asks back; `yes` is done where somebody says so. */
   ask(question, yes) {
     this.tell({ question, yes });
@@ -172,9 +178,12 @@ export class Verdict {
 
   /** Of which kind the screen is. */
   kind() {
-    const { scan, question, fault } = this.current ?? {};
+    const { scan, question, fault, verified } = this.current ?? {};
     if (question || fault) {
       return question ? "ask" : "fault";
+    }
+    if (verified) {
+      return "accepted";
     }
     if (scan) {
       return scan.answer ? "accepted" : "asked";
@@ -184,8 +193,11 @@ export class Verdict {
 
   /** What is in front, in full. */
   front() {
-    const { scan, question, fault } = this.current ?? {};
+    const { scan, question, fault, verified } = this.current ?? {};
     const texts = TEXTS.verdict;
+    if (verified) {
+      return [this.there(verified)];
+    }
     switch (this.kind()) {
       case "ask": return this.question(question);
       case "fault": return [line("word", texts.faulty), el("h2", null, fault)];
@@ -286,6 +298,19 @@ export class Verdict {
       lineOrNot("late", late),
       el("p", { class: "word" }, sign, word),
       isGreen ? this.green(scan, more) : this.red(scan, title, more),
+    );
+  }
+
+  /** A reel that is on its slot. */
+  there(row) {
+    const texts = TEXTS.verdict;
+    const values = { ...row, left: Number(row.remaining) };
+    return el(
+      "div",
+      { class: "one verified" },
+      el("p", { class: "word" }, el("span", { class: "sign" }, "\u2713 "), texts.verified),
+      line("where", said(texts.where.both, values)),
+      line("facts", said(texts.verifiedFacts, values)),
     );
   }
 

@@ -54,6 +54,9 @@ const reds = () => (at("verdict").hidden ? [] : [...at("verdict").querySelectorA
 """
 
 
+VERIFIED: Any = {"uid": None}  # of a reel that is on its slot no message is made
+
+
 class Command:
     """What somebody at the line means to do: the codes by the operator's sheet, and the message
     that they stand for.
@@ -117,6 +120,16 @@ class Command:
         return " ".join(self.codes)
 
 
+def is_verified(command: Command, told: Any) -> bool:
+    """Whether the reel of a load is on that slot already, as the desk said within two seconds:
+    green, or a fault that says that it may not run. Nothing is sent.
+    """
+    kind, text = told["shown"]["kind"], told["shown"]["text"]
+    is_green = kind == "accepted" and "VERIFIED" in text and command.where() in text
+    on = f"{command.reel} is on {command.machine} slot {command.slot}"
+    return command.deed == "LOAD" and (is_green or kind == "fault" and on in text)
+
+
 class Page:
     """The model: the messages that have no answer yet, as somebody knows them who saw each
     screen.
@@ -150,8 +163,11 @@ class Page:
 
     def judged(self, command: Command, told: Any, is_away: bool) -> Any:
         """Looks whether a command made its message, or its loss was shown; gives the message or
-        None. Only `is_away`, with nobody to answer, is known which of the two it has to be.
+        None, and VERIFIED where none was wanted. Only `is_away`, with nobody to answer, is known
+        which of the two it has to be.
         """
+        if not told["made"] and is_verified(command, told):
+            return VERIFIED
         word, body = command.message(told["held"])
         made, shown, is_same = told["made"], told["shown"], self.is_same(command, word, body)
         words = (
@@ -160,9 +176,11 @@ class Page:
             and not (is_away and ("LOAD" in told["held"] or "SPLICE" in told["held"]))
             else (word,)
         )
+        is_unverified = shown["kind"] == "fault" and "NOT verified" in shown["text"]
         is_lost = not made and (
             (told["asked"] and not command.yes)
             or (shown["kind"] == "fault" and "DROPPED" in shown["text"])
+            or is_unverified
             or any(self.is_told(command, text) for text in told["refused"])
         )
         is_kept = len(made) == 1 and made[0]["word"] in words and made[0]["body"] == body
@@ -170,6 +188,7 @@ class Page:
             raise Difference(f"{command}: green without an answer of the desk: {told}")
         if not (is_kept or is_lost) or (
             is_away
+            and not is_unverified
             and (told["asked"], is_lost)
             != (is_same and word in TAKES, is_same and not (word in TAKES and command.yes))
         ):
@@ -254,13 +273,17 @@ def one_round(site: Site, it: Operator, dice: random.Random, outage: str, count:
         back(site, outage)
     for command, one in zip(commands, told):
         message = page.judged(command, one, outage in AWAY)
-        made.append(message["uid"]) if message else lost.append(command)
+        if message is None:
+            lost.append(command)
+        elif message is not VERIFIED:
+            made.append(message["uid"])
     for command in lost:  # as the page asked for
         all_answered(it)
         it.seen()
         command.yes = True
         if not (message := Page().judged(command, done(it, [command])[0], False)):
             raise Difference(f"{command} was lost again, with the desk there")
-        made.append(message["uid"])
+        if message is not VERIFIED:
+            made.append(message["uid"])
     it.seen()
     return len(made), taken(site, it, made), len(lost)

@@ -31,7 +31,7 @@ window.note({ load: true });
 document.addEventListener('DOMContentLoaded', () => {
   const verdict = document.getElementById('verdict'), uids = (what) => [...verdict.querySelectorAll(what)].map((it) => it.dataset.scan ?? 'more');
   if (verdict) {
-    new MutationObserver(() => window.note({ kind: verdict.hidden ? '' : verdict.className, green: verdict.hidden ? [] : uids('.one.accepted'), red: verdict.hidden ? [] : uids('.one.refused, .brief') }))
+    new MutationObserver(() => window.note({ kind: verdict.hidden ? '' : verdict.className, green: verdict.hidden ? [] : uids('.one.accepted'), red: verdict.hidden ? [] : uids('.one.refused, .brief'), verified: verdict.querySelector('.verified') !== null }))
       .observe(verdict, { childList: true, attributes: true, attributeFilter: ['class', 'hidden'] });
   }
 });
@@ -250,7 +250,7 @@ def judged(log: Any, scans: Any, desk: Any) -> Any:
             red = set()
             continue
         greens |= set(entry["green"])
-        if (entry["kind"] == "accepted") and not entry["green"]:
+        if entry["kind"] == "accepted" and not entry["green"] and not entry["verified"]:
             raise Difference(f"green without an answer: {entry}")
         now = set(entry["red"])
         for uid in red - now if "more" not in now else ():

@@ -1,5 +1,6 @@
 """What a scanner types leads to a scan, whatever has the focus."""
 import json
+import pathlib
 import time
 from typing import Any
 
@@ -12,6 +13,26 @@ from station_site import SETUP, Site, wait_for
 from tracedesk_dev.trial import Difference
 
 pytestmark = pytest.mark.browser
+
+
+def test_a_reel_that_is_there_is_verified(site: Site, tmp_path: pathlib.Path) -> None:
+    """Its slot and the reel are scanned again, as at the beginning of a shift: green, and nothing
+    is sent. A reel that was taken off meanwhile is loaded.
+    """
+    with Operator(site) as it:
+        it.ready()
+        it.does("S/M1/1", "K-1", holds=("LOADED",))
+        for _ in range(2):
+            it.scan("S/M1/1", "K-1")
+            kind, text = it.verdict(("accepted",))
+            if "VERIFIED" not in text or "M1 slot 1" not in text:
+                raise Difference(text)
+        it.page.save_screenshot(str(tmp_path / "verified.png"))
+        count_is(it, 1, "a verification")
+        site.say("MaterialsUnloaded", {"Machine": "M1", "Slot": "1"})
+        time.sleep(3)  # longer than the proxy keeps a report
+        it.does("S/M1/1", "K-1", holds=("LOADED",))
+        count_is(it, 2, "a load of what was taken off")
 
 
 def test_a_name_is_no_number(site: Site) -> None:

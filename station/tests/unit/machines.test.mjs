@@ -25,6 +25,15 @@ test("a machine that is stopped says why, and what to do", () => {
   assert.match(text(it, { part: "CAP", reel: null }), /load a reel of CAP$/);
 });
 
+test("after a refused splice the reels on the slot go on", () => {
+  const it = stateOf(of({ State: "stop", Cause: "slot", Slot: "2", Reel: "K-20" }));
+  const load = { part: "CAP", reel: "K-22" };
+  const head = "M1 STOPPED: slot 2: a scan was refused. Take K-20 off";
+  assert.equal(text(it, load), `${head}, load K-22`);
+  const wanted = `${head}. SPLICE K-22 when the tape in front ends`;
+  assert.equal(text(it, { ...load, isSplice: true }), wanted);
+});
+
 test("each cause has words, and one that is new has the sender's", () => {
   const causes = ["idle", "waiting", "refused", "slot", "empty", "expired", "unbaked", "differs",
     "not-in-work", "silent", "fault", "ended"];

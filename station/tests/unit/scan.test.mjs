@@ -5,8 +5,8 @@ import { SETUP } from "./page.mjs";
 const { Scan } = await import("../../scan.js");
 
 /** A page that notes what a scan does; each slot of `live` has a reel. */
-function page(live = []) {
-  const told = { acted: [], faults: [], questions: [], seen: [] };
+function page(live = [], rows = null) {
+  const told = { acted: [], faults: [], questions: [], seen: [], verified: [] };
   const slot = (machine, name) => {
     const reels = live.includes(`${machine}/${name}`) ? [{ reel: "R-0", remaining: "9" }] : [];
     return { known: true, sheet: true, part: "CAP", reels };
@@ -18,6 +18,8 @@ function page(live = []) {
     model: {
       slot,
       isLive: (machine, name) => live.includes(`${machine}/${name}`),
+      isOn: (machine, name, reel) => live.includes(`${machine}/${name}`) && reel === "R-0",
+      slotsNow: async () => rows,
       line: () => ({ slots: [] }),
       state: { ok: true, at: performance.now() },
       refresh: () => {},
@@ -27,6 +29,7 @@ function page(live = []) {
       answer: (action) => told.seen.push(action),
       pass: () => {},
       seeAll: () => {},
+      verified: (row) => told.verified.push(row.reel),
       ask: (question) => told.questions.push(question),
     },
     act: (action, values) => told.acted.push([action, values]),
@@ -44,8 +47,8 @@ function page(live = []) {
 }
 
 /** Scans codes one behind the other, as a hand does: an equal one more than a second later. */
-async function scanned(codes, live) {
-  const { told, scan } = page(live);
+async function scanned(codes, live, rows) {
+  const { told, scan } = page(live, rows);
   for (const code of codes) {
     scan.last.at = -Infinity;
     await scan.take(code);
@@ -57,6 +60,22 @@ test("a slot and a reel load, or splice where the slot has a reel", async () => 
   const values = { machine: "M1", slot: "1", reel: "K-1" };
   assert.deepEqual((await scanned(["S/M1/1", "K-1"])).acted, [["LOAD", values]]);
   assert.deepEqual((await scanned(["S/M1/1", "K-1"], ["M1/1"])).acted, [["SPLICE", values]]);
+});
+
+test("a reel that is on its slot is verified, and nothing is sent", async () => {
+  const row = { slot: "1", reel: "R-0", part: "CAP", minutes_left: "unlimited" };
+  const scans = async (rows) => {
+    const { acted, verified, faults } = await scanned(["S/M1/1", "R-0"], ["M1/1"], rows);
+    return { acted: acted.map(([action]) => action), verified, faults: faults.length };
+  };
+  const none = { acted: [], verified: [], faults: 0 };
+  assert.deepEqual(await scans([row]), { ...none, verified: ["R-0"] });
+  for (const odd of [{ minutes_left: "0" }, { minutes_left: "unbaked" }, { part: "RES" }]) {
+    assert.deepEqual(await scans([{ ...row, ...odd }]), { ...none, faults: 1 });
+  }
+  assert.deepEqual(await scans(null), { ...none, faults: 1 }, "the desk doesn't answer");
+  assert.deepEqual(await scans([]), { ...none, acted: ["LOAD"] }, "it was taken off meanwhile");
+  assert.deepEqual(await scans([{ ...row, reel: "R-1" }]), { ...none, acted: ["SPLICE"] });
 });
 
 test("an action comes before or behind what it is of", async () => {
