@@ -1,0 +1,105 @@
+//! The texts of a line's own routes.
+
+ghost use Rattle.std.specs.Prelude.{IfOk};
+ghost use Rattle.desk_types.specs.Desk.{HasRoom};
+
+use desk_types::{Command, Desk, Id, Listing, Minute, Replies, Rules, Stamped, Text, run};
+use feeder_state::StateDesk;
+use line_answers::{Kind, Point, not_found_text, state_text};
+use line_book::{Guard, Matter, Note, restore};
+use std::alloc::Global;
+use std::test::Fail;
+
+/// Machine M1 has product X, and nothing on its slot 1.
+const WORKING: &str = "PartDefined\tP
+SheetDefined\tX\tM1\t1\t1\tP\t1\tC1
+ProductSelected\tM1\tX";
+
+/// A load of reel R9 is refused, board B1 isn't in work, and slot 1 is empty.
+const STOPPED: &str = "{\"Answer\":\"State\",\"Board\":null,\"Causes\":[\
+{\"Cause\":\"NoWork\"},\
+{\"Cause\":\"Open\",\"Entry\":1,\"Kind\":\"handling\",\"Reel\":\"R9\",\"Refusal\":\"UnknownReel\",\"Slot\":\"1\"},\
+{\"Cause\":\"AtSlot\",\"Reel\":null,\"Refusal\":\"SlotEmpty\",\"Slot\":\"1\"}],\
+\"Machine\":\"M1\",\"Number\":3,\"State\":\"stop\"}";
+
+fn id(text: &str) -> Result<Id, Fail> {
+    Ok(Id::read(text.as_bytes()).ok_or("no id")?)
+}
+
+fn message(alloc: Global, text: &str) -> Result<Stamped, Fail> {
+    let command = Command::read_text(alloc, text.as_bytes())?;
+    Ok(Stamped {
+        uid: id("u")?,
+        source: id("S")?,
+        minute: Minute::new(10).ok_or("no minute")?,
+        command: command.ok_or("no command")?,
+    })
+}
+
+fn messages(alloc: Global, lines: &str) -> Result<Vec<Stamped>, Fail> {
+    let mut messages = Vec::new(alloc);
+    for line in lines.split('\n') {
+        messages.push(message(alloc, line)?)?;
+    }
+    Ok(messages)
+}
+
+/// Sends messages.
+fn replies_of<D: Desk>(alloc: Global, desk: &mut D, messages: &[Stamped]) -> Result<Replies, Fail>
+    requires { HasRoom D.Stands desk.old 100 }
+    ensures { IfOk result (λ replies. HasRoom D.Stands desk.new 0) }
+{
+    if messages.len() > 100 {
+        return Err("too many messages")?;
+    }
+    let replies = run(alloc, desk, messages)?;
+    Ok(replies)
+}
+
+/// Returns the answer about the machine after the messages, which are accepted.
+fn state_of<D: Desk + Drop>(
+    alloc: Global,
+    guard: &Guard,
+    messages: &[Stamped],
+    machine: &str,
+) -> Result<Option<Text>, Fail> {
+    let machine = id(machine)?;
+    let mut desk = D::fresh(alloc, Rules::Two);
+    let _ = replies_of(alloc, &mut desk, messages)?;
+    let point = Point {
+        number: messages.len() as u64,
+        board: None,
+    };
+    Ok(state_text(alloc, &desk, guard, &machine, &point)?)
+}
+
+/// A refused load of reel R9 on slot 1.
+fn refused_load(alloc: Global) -> Result<Note, Fail> {
+    Ok(Note {
+        number: 1,
+        after: 3,
+        carries: 0,
+        matter: Matter::Handling {
+            machine: id("M1")?,
+            slot: id("1")?,
+            reel: Some(id("R9")?),
+            word: id("UnknownReel")?,
+        },
+        text: Listing::new(Vec::new(alloc)),
+    })
+}
+
+#[test]
+fn all_causes_are_told(rt: HostRuntime) -> Result<(), Fail> {
+    let alloc = rt.alloc();
+    let messages = messages(alloc, WORKING)?;
+    let mut guard = restore(alloc, messages.as_slice(), &[])?;
+    guard.noted(&refused_load(alloc)?)?;
+    let told = state_of::<StateDesk>(alloc, &guard, messages.as_slice(), "M1")?.ok_or("no text")?;
+    assert!(rt; told.as_slice() == STOPPED.as_bytes());
+    let unknown = state_of::<StateDesk>(alloc, &guard, messages.as_slice(), "M2")?;
+    assert!(rt; unknown.is_none());
+    let text = not_found_text(alloc, Kind::Machine)?;
+    assert!(rt; text.as_slice() == "{\"Answer\":\"NotFound\",\"Kind\":\"Machine\"}".as_bytes());
+    Ok(())
+}

@@ -1,0 +1,2 @@
+pub mod CauseValues
+pub mod TextCases

@@ -1,0 +1,2 @@
+pub mod NotFound
+pub mod State
