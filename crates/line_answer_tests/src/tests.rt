@@ -5,8 +5,9 @@ ghost use Rattle.desk_types.specs.Desk.{HasRoom};
 
 use desk_types::{Command, Desk, Id, Listing, Minute, Replies, Rules, Stamped, Text, run};
 use feeder_state::StateDesk;
-use line_answers::{Kind, Point, not_found_text, state_text};
-use line_book::{Guard, Matter, Note, restore};
+use line_answers::{Kind, Point, Wanted, book_text, not_found_text, state_text};
+use line_book::{BookRow, Guard, Matter, Note, restore};
+use line_entries::{Sender, row_of};
 use std::alloc::Global;
 use std::test::Fail;
 
@@ -101,5 +102,56 @@ fn all_causes_are_told(rt: HostRuntime) -> Result<(), Fail> {
     assert!(rt; unknown.is_none());
     let text = not_found_text(alloc, Kind::Machine)?;
     assert!(rt; text.as_slice() == "{\"Answer\":\"NotFound\",\"Kind\":\"Machine\"}".as_bytes());
+    Ok(())
+}
+
+/// Returns the row of the refused load, which this message told.
+fn row(alloc: Global, note: &Note, told: &[u8]) -> Result<BookRow, Fail> {
+    let sender = Sender {
+        source: Some(id("S")?),
+        uid: None,
+    };
+    Ok(row_of(alloc, note, &sender, told)?)
+}
+
+/// The refused load, with a quote in what was told.
+const OPEN: &str = "n,after,kind,source,uid,machine,slot,board,reel,word,of,told,state
+1,3,handling,S,,M1,1,,R9,UnknownReel,0,\"a \"\"load\"\"\",open
+";
+
+const NO_ROWS: &str = "n,after,kind,source,uid,machine,slot,board,reel,word,of,told,state
+";
+
+#[test]
+fn entries_are_records(rt: HostRuntime) -> Result<(), Fail> {
+    let alloc = rt.alloc();
+    let mut notes = Vec::new(alloc);
+    notes.push(refused_load(alloc)?)?;
+    let mut rows = Vec::new(alloc);
+    rows.push(row(alloc, &refused_load(alloc)?, b"a \"load\"")?)?;
+    let told = book_text(
+        alloc,
+        rows.as_slice(),
+        notes.as_slice(),
+        &[],
+        Wanted::After(0),
+    )?;
+    assert!(rt; told.as_slice() == OPEN.as_bytes());
+    let later = book_text(
+        alloc,
+        rows.as_slice(),
+        notes.as_slice(),
+        &[],
+        Wanted::After(1),
+    )?;
+    assert!(rt; later.as_slice() == NO_ROWS.as_bytes());
+    let waiting = book_text(
+        alloc,
+        rows.as_slice(),
+        notes.as_slice(),
+        &[],
+        Wanted::Undecided,
+    )?;
+    assert!(rt; waiting.as_slice() == NO_ROWS.as_bytes());
     Ok(())
 }

@@ -1,2 +1,3 @@
 pub mod CauseValues
+pub mod RowsWanted
 pub mod TextCases

@@ -1,2 +1,4 @@
+pub mod Book
+pub mod Csv
 pub mod NotFound
 pub mod State
