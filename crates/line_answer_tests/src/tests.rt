@@ -5,8 +5,11 @@ ghost use Rattle.desk_types.specs.Desk.{HasRoom};
 
 use desk_types::{Command, Desk, Id, Listing, Minute, Replies, Rules, Stamped, Text, run};
 use feeder_state::StateDesk;
-use line_answers::{Kind, Point, Wanted, book_text, not_found_text, state_text};
-use line_book::{BookRow, Guard, Matter, Note, restore};
+use line_answers::{
+    Kind, LineFault, Member, Noted, Point, Wanted, book_text, not_found_text, noted_text,
+    read_decision, read_hold, read_release, state_text,
+};
+use line_book::{BookRow, Guard, Matter, Note, Stock, restore};
 use line_entries::{Sender, row_of};
 use std::alloc::Global;
 use std::test::Fail;
@@ -153,5 +156,40 @@ fn entries_are_records(rt: HostRuntime) -> Result<(), Fail> {
         Wanted::Undecided,
     )?;
     assert!(rt; waiting.as_slice() == NO_ROWS.as_bytes());
+    Ok(())
+}
+
+#[test]
+fn decisions_are_read(rt: HostRuntime) -> Result<(), Fail> {
+    let alloc = rt.alloc();
+    let body =
+        "{\"Of\":2,\"Became\":\"scrapped\",\"By\":\"A. Person\",\"Reason\":\"cracked\"}".as_bytes();
+    assert!(rt; read_decision(alloc, 2, body) == Ok(Matter::Decision { about: 2 }));
+    assert!(rt; read_decision(alloc, 1, body) == Err(LineFault::NotFound(Kind::Entry)));
+    let fault = read_decision(alloc, 2, "{\"Of\":2,\"Became\":\"\"}".as_bytes());
+    assert!(rt; fault == Err(LineFault::BodyMember(Member::Became)));
+    let text = LineFault::BodyMember(Member::Became).write_text(alloc)?;
+    assert!(rt;
+        text.as_slice()
+            == "{\"Answer\":\"Faulty\",\"Fault\":\"BodyMember\",\"Member\":\"Became\"}".as_bytes()
+    );
+    let told = noted_text(alloc, Noted::Decided, 13)?;
+    assert!(rt; told.as_slice() == "{\"Answer\":\"Decided\",\"Entry\":13}".as_bytes());
+    Ok(())
+}
+
+#[test]
+fn holds_are_read(rt: HostRuntime) -> Result<(), Fail> {
+    let alloc = rt.alloc();
+    let stock = Stock::Lot(id("L1")?);
+    let hold =
+        "{\"Hold\":\"lot\",\"Name\":\"L1\",\"By\":\"A. Person\",\"Reason\":\"label\"}".as_bytes();
+    assert!(rt; read_hold(alloc, hold) == Ok(Matter::Hold { stock }));
+    assert!(rt; read_release(alloc, hold) == Err(LineFault::BodyMember(Member::Release)));
+    let release =
+        "{\"Release\":\"lot\",\"Name\":\"L1\",\"By\":\"A. Person\",\"Reason\":\"ok\"}".as_bytes();
+    assert!(rt; read_release(alloc, release) == Ok(Matter::Release { stock }));
+    assert!(rt; read_hold(alloc, "[]".as_bytes()) == Err(LineFault::NotObject));
+    assert!(rt; read_hold(alloc, "{".as_bytes()) == Err(LineFault::NotJson));
     Ok(())
 }

@@ -1,4 +1,7 @@
+pub mod Bodies
 pub mod Book
 pub mod Csv
+pub mod Fault
 pub mod NotFound
+pub mod Noted
 pub mod State

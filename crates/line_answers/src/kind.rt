@@ -41,7 +41,7 @@ pub fn not_found_text(alloc: Global, kind: Kind) -> Result<Text, AllocError>
     Ok(Listing::new(answer.to_string(alloc)?.into_bytes()))
 }
 
-fn not_found(alloc: Global, kind: &str) -> Result<Value, AllocError>
+pub fn not_found(alloc: Global, kind: &str) -> Result<Value, AllocError>
     ensures value { IfOk result (λ answer. view answer ≡ not_found kind.now) }
     ensures whole { IfOk result (λ answer. has_float (view answer) ≡ false) }
 {

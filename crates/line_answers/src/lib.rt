@@ -3,13 +3,24 @@
 //! A server calls it with the desk, the guard of the book, and rows of the table `book`.
 #![tactic(auto)]
 
+mod bodies;
 mod book;
 mod cause;
 mod csv_text;
+mod fault;
 mod kind;
+mod limits;
+mod member;
+mod noted;
+mod object;
 mod state;
 mod word;
 
+pub use bodies::{read_decision, read_hold, read_release};
 pub use book::{Wanted, book_text};
+pub use fault::LineFault;
 pub use kind::{Kind, not_found_text};
+pub use limits::LONGEST_SAYING;
+pub use member::Member;
+pub use noted::{Noted, noted_text};
 pub use state::{Point, state_text};
