@@ -1,0 +1,4 @@
+pub mod Noting
+pub mod Places
+pub mod Restoring
+pub mod Until

@@ -1,0 +1,3 @@
+pub mod Restored
+pub mod Lists
+pub mod Opened
