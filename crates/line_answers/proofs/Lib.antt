@@ -1,3 +1,4 @@
 pub mod CauseValues
+pub mod Counting
 pub mod RowsWanted
 pub mod TextCases
