@@ -5,7 +5,10 @@ ghost use Rattle.desk_types.specs.Desk.{HasRoom};
 
 use desk_types::{Command, Desk, Id, Listing, Minute, Replies, Rules, Stamped, Text, run};
 use feeder_state::StateDesk;
-use line_answers::{Kind, LineFault, Member, Noted, Point, Wanted, book_text, counts_text, not_found_text, noted_text, read_decision, read_hold, read_release, state_text};
+use line_answers::{
+    Kind, LineFault, Member, Noted, Point, Wanted, book_text, not_found_text, noted_text,
+    read_decision, read_hold, read_release, state_text,
+};
 use line_book::{BookRow, Guard, Matter, Note, Stock, restore};
 use line_entries::{Sender, row_of};
 use std::alloc::Global;
@@ -129,11 +132,29 @@ fn entries_are_records(rt: HostRuntime) -> Result<(), Fail> {
     notes.push(refused_load(alloc)?)?;
     let mut rows = Vec::new(alloc);
     rows.push(row(alloc, &refused_load(alloc)?, b"a \"load\"")?)?;
-    let told = book_text(alloc, rows.as_slice(), notes.as_slice(), &[], Wanted::After(0))?;
+    let told = book_text(
+        alloc,
+        rows.as_slice(),
+        notes.as_slice(),
+        &[],
+        Wanted::After(0),
+    )?;
     assert!(rt; told.as_slice() == OPEN.as_bytes());
-    let later = book_text(alloc, rows.as_slice(), notes.as_slice(), &[], Wanted::After(1))?;
+    let later = book_text(
+        alloc,
+        rows.as_slice(),
+        notes.as_slice(),
+        &[],
+        Wanted::After(1),
+    )?;
     assert!(rt; later.as_slice() == NO_ROWS.as_bytes());
-    let waiting = book_text(alloc, rows.as_slice(), notes.as_slice(), &[], Wanted::Undecided)?;
+    let waiting = book_text(
+        alloc,
+        rows.as_slice(),
+        notes.as_slice(),
+        &[],
+        Wanted::Undecided,
+    )?;
     assert!(rt; waiting.as_slice() == NO_ROWS.as_bytes());
     Ok(())
 }
@@ -141,13 +162,17 @@ fn entries_are_records(rt: HostRuntime) -> Result<(), Fail> {
 #[test]
 fn decisions_are_read(rt: HostRuntime) -> Result<(), Fail> {
     let alloc = rt.alloc();
-    let body = "{\"Of\":2,\"Became\":\"scrapped\",\"By\":\"A. Person\",\"Reason\":\"cracked\"}".as_bytes();
+    let body =
+        "{\"Of\":2,\"Became\":\"scrapped\",\"By\":\"A. Person\",\"Reason\":\"cracked\"}".as_bytes();
     assert!(rt; read_decision(alloc, 2, body) == Ok(Matter::Decision { about: 2 }));
     assert!(rt; read_decision(alloc, 1, body) == Err(LineFault::NotFound(Kind::Entry)));
     let fault = read_decision(alloc, 2, "{\"Of\":2,\"Became\":\"\"}".as_bytes());
     assert!(rt; fault == Err(LineFault::BodyMember(Member::Became)));
     let text = LineFault::BodyMember(Member::Became).write_text(alloc)?;
-    assert!(rt; text.as_slice() == "{\"Answer\":\"Faulty\",\"Fault\":\"BodyMember\",\"Member\":\"Became\"}".as_bytes());
+    assert!(rt;
+        text.as_slice()
+            == "{\"Answer\":\"Faulty\",\"Fault\":\"BodyMember\",\"Member\":\"Became\"}".as_bytes()
+    );
     let told = noted_text(alloc, Noted::Decided, 13)?;
     assert!(rt; told.as_slice() == "{\"Answer\":\"Decided\",\"Entry\":13}".as_bytes());
     Ok(())
@@ -157,61 +182,14 @@ fn decisions_are_read(rt: HostRuntime) -> Result<(), Fail> {
 fn holds_are_read(rt: HostRuntime) -> Result<(), Fail> {
     let alloc = rt.alloc();
     let stock = Stock::Lot(id("L1")?);
-    let hold = "{\"Hold\":\"lot\",\"Name\":\"L1\",\"By\":\"A. Person\",\"Reason\":\"label\"}".as_bytes();
+    let hold =
+        "{\"Hold\":\"lot\",\"Name\":\"L1\",\"By\":\"A. Person\",\"Reason\":\"label\"}".as_bytes();
     assert!(rt; read_hold(alloc, hold) == Ok(Matter::Hold { stock }));
     assert!(rt; read_release(alloc, hold) == Err(LineFault::BodyMember(Member::Release)));
-    let release = "{\"Release\":\"lot\",\"Name\":\"L1\",\"By\":\"A. Person\",\"Reason\":\"ok\"}".as_bytes();
+    let release =
+        "{\"Release\":\"lot\",\"Name\":\"L1\",\"By\":\"A. Person\",\"Reason\":\"ok\"}".as_bytes();
     assert!(rt; read_release(alloc, release) == Ok(Matter::Release { stock }));
     assert!(rt; read_hold(alloc, "[]".as_bytes()) == Err(LineFault::NotObject));
     assert!(rt; read_hold(alloc, "{".as_bytes()) == Err(LineFault::NotJson));
-    Ok(())
-}
-
-/// Returns the figures of a desk with these messages, and of machine M1.
-fn counts_of<D: Desk + Drop>(
-    alloc: Global,
-    guard: &Guard,
-    messages: &[Stamped],
-    notes: &[Note],
-) -> Result<Text, Fail> {
-    let mut desk = D::fresh(alloc, Rules::Two);
-    let _ = replies_of(alloc, &mut desk, messages)?;
-    let commands = messages.len() as u64;
-    Ok(counts_text(alloc, &desk, guard, commands, notes, &[id("M1")?])?)
-}
-
-/// How the figures begin.
-const COUNTS: &str = "# HELP tracedesk_line_commands_total Accepted commands.
-# TYPE tracedesk_line_commands_total counter
-tracedesk_line_commands_total 3
-# HELP tracedesk_line_entries_total Entries of the book.
-# TYPE tracedesk_line_entries_total counter
-tracedesk_line_entries_total 1
-# HELP tracedesk_line_refusals_total Entries of refused messages, by refusal.
-# TYPE tracedesk_line_refusals_total counter
-tracedesk_line_refusals_total{refusal=\"TooFarAhead\"} 0
-";
-
-/// How they end.
-const STOPPED_COUNTS: &str = "tracedesk_line_refusals_total{refusal=\"DeskFull\"} 0
-# HELP tracedesk_line_undecided Entries that wait for a decision.
-# TYPE tracedesk_line_undecided gauge
-tracedesk_line_undecided 0
-# HELP tracedesk_line_machines_stopped Machines that may not work.
-# TYPE tracedesk_line_machines_stopped gauge
-tracedesk_line_machines_stopped 1
-";
-
-#[test]
-fn figures_are_told(rt: HostRuntime) -> Result<(), Fail> {
-    let alloc = rt.alloc();
-    let messages = messages(alloc, WORKING)?;
-    let mut guard = restore(alloc, messages.as_slice(), &[])?;
-    guard.noted(&refused_load(alloc)?)?;
-    let mut notes = Vec::new(alloc);
-    notes.push(refused_load(alloc)?)?;
-    let told = counts_of::<StateDesk>(alloc, &guard, messages.as_slice(), notes.as_slice())?;
-    assert!(rt; told.as_slice().starts_with(COUNTS.as_bytes()));
-    assert!(rt; told.as_slice().ends_with(STOPPED_COUNTS.as_bytes()));
     Ok(())
 }

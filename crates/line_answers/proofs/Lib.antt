@@ -1,4 +1,3 @@
 pub mod CauseValues
-pub mod Counting
 pub mod RowsWanted
 pub mod TextCases

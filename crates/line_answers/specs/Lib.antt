@@ -1,6 +1,5 @@
 pub mod Bodies
 pub mod Book
-pub mod Counts
 pub mod Csv
 pub mod Fault
 pub mod NotFound

@@ -107,7 +107,7 @@ fn reel_in(matter: &Matter) -> Option<Id>
     }
 }
 
-pub fn refusal_in(matter: &Matter) -> Option<Id>
+fn refusal_in(matter: &Matter) -> Option<Id>
     ensures { result ≡ refusal_in matter.now }
 {
     match matter {

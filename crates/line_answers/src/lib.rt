@@ -6,7 +6,6 @@
 mod bodies;
 mod book;
 mod cause;
-mod counts;
 mod csv_text;
 mod fault;
 mod kind;
@@ -19,7 +18,6 @@ mod word;
 
 pub use bodies::{read_decision, read_hold, read_release};
 pub use book::{Wanted, book_text};
-pub use counts::counts_text;
 pub use fault::LineFault;
 pub use kind::{Kind, not_found_text};
 pub use limits::LONGEST_SAYING;
