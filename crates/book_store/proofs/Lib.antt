@@ -1,4 +1,0 @@
-pub mod Noting
-pub mod Places
-pub mod Restoring
-pub mod Until

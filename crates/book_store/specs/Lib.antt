@@ -1,3 +1,0 @@
-pub mod Restored
-pub mod Lists
-pub mod Opened
