@@ -2,7 +2,7 @@
 from __future__ import annotations
 
 import pathlib
-from collections.abc import Callable
+from collections.abc import Callable, Iterator
 
 import pytest
 
@@ -12,8 +12,8 @@ SetUp = Callable[..., None]
 
 
 @pytest.fixture
-def set_up(tmp_path: pathlib.Path, monkeypatch: pytest.MonkeyPatch) -> SetUp:
-    """Writes a set-up file of these words."""
+def set_up(tmp_path: pathlib.Path, monkeypatch: pytest.MonkeyPatch) -> Iterator[SetUp]:
+    """Writes a set-up file of these words, which no later test finds."""
     monkeypatch.setattr(places, "FOLDER", tmp_path)
     places.files.cache_clear()
 
@@ -21,7 +21,8 @@ def set_up(tmp_path: pathlib.Path, monkeypatch: pytest.MonkeyPatch) -> SetUp:
         text = "".join(f"{word} = {value}\n" for word, value in words.items())
         (tmp_path / f"{name}.conf").write_text(text, encoding="utf-8")
 
-    return write
+    yield write
+    places.files.cache_clear()
 
 
 def test_a_line_alone_has_the_places_of_the_package(set_up: SetUp) -> None:
