@@ -34,7 +34,7 @@ ASKED = {  # a request, and its status
 }
 LONG_HEAD = f"-H \"X: $(head -c 40000 /dev/zero | tr '\\0' x)\" {URL}/overdue"
 MANY_CLIENTS = r"""
-import base64, http.client, socket, ssl, threading, time
+import base64, http.client, socket, ssl, time
 trust = ssl.create_default_context(cafile="/etc/tracedesk/server.crt")
 key = base64.b64encode(b"m1:" + open("/etc/tracedesk/m1.password", "rb").read().strip()).decode()
 head = f"Host: desk.plant\r\nAuthorization: Basic {key}\r\nContent-Type: application/json\r\n"
@@ -49,8 +49,8 @@ def ask(links, times):
 def new():
     return http.client.HTTPSConnection("desk.plant", context=trust)
 
-told, threads = [], [threading.Thread(target=ask, args=([new()], 20)) for _ in range(10)]
-[it.start() for it in threads] and [it.join() for it in threads]
+told = []
+ask([new()], 200)
 print(set(told))
 held, told = [], []
 for _ in range(64):  # each has begun a request, and doesn't end it
