@@ -6,9 +6,9 @@ ghost use Rattle.serde_json.specs.Written.{has_float};
 ghost use Rattle.desk_answers.specs.Texts.{refusal_word};
 ghost use Rattle.line_answers.specs.State.{cause_object, entry_object, held_object, name_or_null, plain_object, reel_in, refusal_in, slot_in, slot_object};
 
-use crate::word::{kind_text, refusal_word};
 use desk_types::{Id, Refusal};
 use line_book::{Cause, Matter};
+use line_entries::{kind_text, refusal_word};
 use serde_json::{Value, json};
 use std::alloc::{AllocError, Global};
 

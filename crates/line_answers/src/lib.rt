@@ -14,7 +14,6 @@ mod member;
 mod noted;
 mod object;
 mod state;
-mod word;
 
 pub use bodies::{read_decision, read_hold, read_release};
 pub use book::{Wanted, book_text};

@@ -12,9 +12,10 @@ mod row;
 mod told;
 mod unread;
 
+pub use columns::kind_text;
 pub use entry::{Place, fault_note, plain_note, refusal_note};
 pub use law::{a_text_tells_each_byte, only_a_live_reel_verifies};
-pub use refusal::refused;
+pub use refusal::{refusal_word, refused};
 pub use row::{Sender, row_of};
 pub use told::told_text;
 pub use unread::faulty;

@@ -200,7 +200,8 @@ fn answer_word(answer: &Answer) -> Option<Id>
     }
 }
 
-fn refusal_word(refusal: &Refusal) -> &'static str
+/// Returns the name of the refusal.
+pub fn refusal_word(refusal: &Refusal) -> &'static str
     ensures { result.now ≡ refusal_word refusal.now }
 {
     match refusal {
