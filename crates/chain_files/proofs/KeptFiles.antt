@@ -1,6 +1,7 @@
 -- Files that were closed hold what they held.
-use Rattle.std.proofs.Common.{◌≡◌, ◌∙◌, ◌+◌, ℕ, IsTrue, Option, Some, None, List, [], ◌∷◌, ◌++◌, append-nil, get_or, length, length-append, refl, sym, ap, subst, arith, inl, inr}
-use Rattle.std.specs.Prelude.{IsSomeAnd, MatchOption}
+use Rattle.std.proofs.Common.{◌≡◌, ◌∙◌, ◌+◌, ◌<◌, ℕ, IsTrue, Some, None, List, [], ◌∷◌, ◌++◌, append_assoc, append-nil}
+use Rattle.std.proofs.Common.{get_or, length, length-append, refl, sym, ap, subst, subst₂, arith, inl, inr, take}
+use Rattle.std.proofs.lemmas.List.{take_more}
 use Rattle.std.proofs.Math.Logic.{∥∥₁_map}
 use Rattle.sqlite_disk.specs.declared.Disk as disk
 use Rattle.sqlite_disk.specs.declared.Files.{Files}
@@ -18,12 +19,11 @@ use Rattle.feeder_state.specs.declared.desk.StateDesk.{StateDesk}
 use Rattle.line_tables.specs.Frames.{ReadsOnly}
 use Rattle.line_tables.specs.Rows.{Holds}
 use Rattle.line_replay.specs.Rows.{ledger_tables}
+use Rattle.line_schema.specs.declared.fault.OpenFault.{OpenFault}
 use Rattle.line_schema.specs.declared.store.LineStore.{LineStore}
 use Rattle.line_schema.specs.Stands.{conn_of}
-use Rattle.desk_commands.specs.declared.left.ToClose.TheVariants.{Refused}
 use Rattle.desk_commands.specs.Closed.{Close, failed, whole, ClosesConn}
-use Rattle.desk_commands.proofs.ClosedFiles.{refuses_to}
-use Rattle.desk_file.specs.declared.refusal.RefusedFile.{RefusedFile}
+use Rattle.desk_commands.proofs.ClosedFiles.{refuses_run_to}
 use Rattle.desk_file.specs.Files.{Begins, HasOursFirst, HasTables, MayRead}
 use Rattle.desk_file.specs.Refused.{RefusesRun}
 use Rattle.chain_files.specs.Files.{HoldHistory, oldest_first, placed, start_of}
@@ -68,14 +68,14 @@ module _ {D : Type 0} {g : disk.Ghosts D} (image : Image) (store : LineStore (Fi
       )
 
   pub read-kept : ClosesConn whole conn f → IsKept g image f'
-  read-kept closes clean ours =
+  read-kept closes = inl (λ clean ours.
       let it = closed-whole closes clean ours in
       let held = it.2 it.0 in
-      (whole, inl (held.0, (opens it.0 ours).1, held.1, held.2, held.3, held.4))
+      (whole, inl (held.0, (opens it.0 ours).1, held.1, held.2, held.3, held.4)))
 
   -- A close that failed left it.
   pub left-kept : ClosesConn failed conn f → IsKept g image f'
-  left-kept closes clean' ours =
+  left-kept closes = inl (λ clean' ours.
       let left = closes (read.clean clean') in
       let before : HasCleanDisk (file_state (conn_of store)) = omega (arith, reads.survives.clean, left.was_clean) in
       let b = opens before ours in
@@ -94,34 +94,36 @@ module _ {D : Type 0} {g : disk.Ghosts D} (image : Image) (store : LineStore (Fi
           b.3.lawful before refl,
           b.3.consistent,
         ),
-      )
+      ))
 
 pub unread : {D : Type 0} (g : disk.Ghosts D) (f : Files D) → OnlyReadFiles g f f
 unread g f = record { same = refl; leaves = λ _ left. left; clean = λ clean. clean }
 
 -- A file that was refused, and closed again.
-module _ {D : Type 0} {g : disk.Ghosts D} (stays : SeenMayStay g) (image : Image) (r : RefusedFile D g)
-    (refuses : RefusesRun image None r) where
-  pub refused-kept : (how : Close) (conn : Held (FileStore D g)) (f : Files D) → r.file ≡ Some conn
-      → ClosesConn how conn f → IsKept g image f
-  refused-kept how conn f is closes clean ours =
-      let it = refuses_to (start_of image) stays how (Refused r) (Some f) None r.fault
-      (subst (λ (file : Option (Held (FileStore D g))). MatchOption file (◌≡◌ {A = Option (Files D)} (Some f) None) (λ conn. IsSomeAnd (Some f) (ClosesConn how conn))) (sym is) closes) (refl, refuses) in
-      (how, inr (it.0 clean).1)
+module _ {D : Type 0} {g : disk.Ghosts D} (stays : SeenMayStay g) (image : Image) (fault : OpenFault)
+    (conn : Held (FileStore D g))
+    (refuses : RefusesRun image None (record { fault = fault; file = Some conn; unread = None })) where
+  pub refused-kept : (how : Close) (f : Files D) → ClosesConn how conn f → IsKept g image f
+  refused-kept how f closes = inl (λ clean ours.
+      let it = refuses_run_to (start_of image) stays how fault conn f closes refuses in
+      (how, inr (it.0 clean).1))
 
 -- ---- the files of a run
 
-pub none-more : {D : Type 0} (g : disk.Ghosts D) (image : Image) (closed : List (Files D))
-    → AddsKept g image closed closed
-none-more g image closed = (None, sym (append-nil closed), tt)
+pub one-more : {D : Type 0} (g : disk.Ghosts D) (image : Image) (path : List ℕ) {opened opened' : List (List ℕ)}
+    {closed closed' : List (Files D)} (f : Files D) → opened' ≡ opened ++ path ∷ [] → closed' ≡ closed ++ f ∷ []
+    → IsKept g image f → AddsKept g image path opened opened' closed closed'
+one-more g image path f told order kept = inl (told, (f, order, kept))
 
-pub one-more : {D : Type 0} (g : disk.Ghosts D) (image : Image) (closed closed' : List (Files D)) (f : Files D)
-    → closed' ≡ closed ++ f ∷ [] → IsKept g image f → AddsKept g image closed closed'
-one-more g image closed closed' f order kept = (Some f, order, kept)
-
-pub none-kept : {D : Type 0} (g : disk.Ghosts D) (image : ℕ → Image) (closed : List (Files D)) → closed ≡ []
-    → AreKept g image closed
-none-kept g image closed none = record { newest_first = []; order = none; each = tt }
+pub none-kept : {D : Type 0} (g : disk.Ghosts D) (image : List ℕ → ℕ → Image) (paths opened : List (List ℕ))
+    (closed : List (Files D)) → closed ≡ [] → AreKept g image paths opened opened closed
+none-kept g image paths opened closed none = record {
+  inside = omega (arith, ap length none);
+  told = sym (append-nil opened) ∙ ap (λ (n : ℕ). opened ++ take n paths) (sym (ap length none));
+  newest_first = [];
+  order = none;
+  each = tt;
+}
 
 length-oldest : {X : Type 0} (xs : List X) → length (oldest_first xs) ≡ length xs
 length-oldest [] = refl
@@ -130,25 +132,42 @@ length-oldest (x ∷ older) =
     length-append (oldest_first older) (x ∷ []) in
     omega (arith, sum, length-oldest older)
 
-pub more-kept : {D : Type 0} (g : disk.Ghosts D) (image : ℕ → Image) (closed closed' : List (Files D)) (n : ℕ)
-    → length closed ≡ n → AreKept g image closed → AddsKept g (image n) closed closed'
-    → AreKept g image closed'
-more-kept g image closed closed' n long kept (None, order, _) =
-    subst (λ (fs : List (Files _)). AreKept g image fs) (sym (order ∙ append-nil closed)) kept
-more-kept g image closed closed' n long kept (Some f, order, more) =
-    let same : length kept.newest_first ≡ n =
-    sym (length-oldest kept.newest_first) ∙ sym (ap length kept.order) ∙ long in
-    record {
-      newest_first = f ∷ kept.newest_first;
-      order = order ∙ ap (λ (fs : List (Files _)). fs ++ f ∷ []) kept.order;
-      each = (subst (λ (k : ℕ). IsKept g (image k) f) (sym same) more, kept.each);
-    }
+-- One more file, with the path at its place.
+module _ {D : Type 0} (g : disk.Ghosts D) (image : List ℕ → ℕ → Image) (paths first opened opened' : List (List ℕ))
+    (closed closed' : List (Files D)) (n : ℕ) (path : List ℕ) (is : path ≡ get_or paths n []) (within : n < length paths)
+    (long : length closed ≡ n) (kept : AreKept g image paths first opened closed) where
+  told-more : opened' ≡ opened ++ path ∷ [] → opened' ≡ first ++ take (n + 1) paths
+  told-more told =
+      told ∙ ap (λ (all : List (List ℕ)). all ++ path ∷ []) kept.told
+      ∙ ap (λ (k : ℕ). (first ++ take k paths) ++ path ∷ []) long
+      ∙ append_assoc first (take n paths) (path ∷ [])
+      ∙ ap (λ (last : List ℕ). first ++ (take n paths ++ last ∷ [])) is
+      ∙ ap (λ (all : List (List ℕ)). first ++ all) (sym (take_more paths n [] within))
 
--- The file with the path at a place.
-pub kept-more : {D : Type 0} (g : disk.Ghosts D) (image : List ℕ → ℕ → Image) (paths : List (List ℕ))
-    (closed closed' : List (Files D)) (n : ℕ) (path : List ℕ) → path ≡ get_or paths n []
-    → length closed ≡ n → AreKept g (placed image paths) closed → AddsKept g (image path n) closed closed'
-    → AreKept g (placed image paths) closed'
-kept-more g image paths closed closed' n path is long kept adds =
-    more-kept g (placed image paths) closed closed' n long kept
-    (subst (λ (path : List ℕ). AddsKept g (image path n) closed closed') is adds)
+  adds : AddsKept g (image path n) path opened opened' closed closed' → AreKept g image paths first opened' closed'
+  adds (inr (told, order)) = subst₂ (AreKept g image paths first) (sym told) (sym order) kept
+  adds (inl (told, (f, order, more))) =
+      let same : length kept.newest_first ≡ n =
+      sym (length-oldest kept.newest_first) ∙ sym (ap length kept.order) ∙ long in
+      let longer : length closed' ≡ length closed + 1 = ap length order ∙ length-append closed (f ∷ []) in
+      let count : n + 1 ≡ length closed' = omega (arith, longer, long) in
+      record {
+        inside = omega (arith, count, within);
+        told = told-more told ∙ ap (λ (k : ℕ). first ++ take k paths) count;
+        newest_first = f ∷ kept.newest_first;
+        order = order ∙ ap (λ (fs : List (Files _)). fs ++ f ∷ []) kept.order;
+        each = (
+          subst (λ (k : ℕ). IsKept g (placed image paths k) f) (sym same)
+              (subst (λ (path : List ℕ). IsKept g (image path n) f) is more),
+          kept.each,
+        );
+      }
+
+-- The same, by an opener with the same contents.
+pub more-kept : {D : Type 0} (g : disk.Ghosts D) (paths first : List (List ℕ)) {image held : List ℕ → ℕ → Image}
+    {opened opened' : List (List ℕ)} {closed closed' : List (Files D)} (n : ℕ) (path : List ℕ) → held ≡ image
+    → path ≡ get_or paths n [] → n < length paths → length closed ≡ n → AreKept g image paths first opened closed
+    → AddsKept g (held path n) path opened opened' closed closed' → AreKept g image paths first opened' closed'
+more-kept g paths first {image} {held} {opened} {opened'} {closed} {closed'} n path same is within long kept more =
+    adds g image paths first opened opened' closed closed' n path is within long kept
+    (subst (λ (h : List ℕ → ℕ → Image). AddsKept g (h path n) path opened opened' closed closed') same more)

@@ -1,5 +1,6 @@
+mod RefusedFiles
 pub mod Answered
 pub mod KeptFiles
 pub mod OneFileMore
 pub mod ReadWords
-mod RefusedFiles
+pub mod Told

@@ -1,6 +1,5 @@
 -- A file that was refused, once it is closed.
-use Rattle.std.proofs.Common.{◌≡◌, ◌∙◌, ℕ, All, Option, Some, None, List, [], ◌∷◌, ◌++◌, length-append, refl, sym, subst, append-nil, arith, inl, inr}
-use Rattle.std.specs.Prelude.{IsSomeAnd, MatchOption}
+use Rattle.std.proofs.Common.{◌≡◌, ◌∙◌, ℕ, All, Option, Some, None, List, [], ◌∷◌, ◌++◌, length-append, subst, append-nil, arith, inl, inr}
 use Rattle.std.specs.Option.{option_to_list}
 use Rattle.std.proofs.lemmas.List.Elements.{All-from_recursion, recursion_from_All}
 use Rattle.sqlite_disk.specs.declared.Disk as disk
@@ -11,38 +10,19 @@ use Rattle.sqlite_wal.specs.Recovery.{Image}
 use Rattle.sqlite_wal.proofs.LogLemmas.{SeenMayStay}
 use Rattle.sqlite.specs.Held.{Held}
 use Rattle.line_schema.specs.declared.fault.OpenFault.{OpenFault}
-use Rattle.desk_file.specs.declared.refusal.RefusedFile.{RefusedFile}
 use Rattle.desk_file.specs.Refused.{RefusesRun}
-use Rattle.desk_commands.specs.declared.left.ToClose.TheVariants.{Refused}
-use Rattle.desk_commands.specs.Closed.{Close, whole, ClosesConn}
-use Rattle.desk_commands.proofs.ClosedFiles.{refuses_to}
+use Rattle.desk_commands.specs.Closed.{Close, ClosesConn}
+use Rattle.desk_commands.proofs.ClosedFiles.{refuses_run_to}
 use Rattle.chain_files.specs.Files.{AreHonest, IsFaultOf, IsRefused, start_of}
 use Rattle.chain_files.proofs.OneFileMore.{front, last-clean}
 
-module _ {D : Type 0} {g : disk.Ghosts D} (stays : SeenMayStay g) (image : Image) (r : RefusedFile D g) (refuses : RefusesRun image None r) (closed closed' : List (Files D)) where
-  -- It was not opened.
-  pub not-opened : r.file ≡ None → closed' ≡ closed → IsRefused g image closed closed' r.fault
-  not-opened none same = (
-    None,
-    same ∙ sym (append-nil closed),
-    inr (
-      whole,
-      refuses_to (start_of image) stays whole (Refused r) None None r.fault
-          (subst (λ (file : Option (Held (FileStore D g))). MatchOption file (◌≡◌ {A = Option (Files D)} None None) (λ conn. IsSomeAnd None (ClosesConn whole conn))) (sym none) refl) (refl, refuses),
-    ),
-  )
-
-  -- It was opened, and closed again.
-  pub closed-again : (how : Close) (conn : Held (FileStore D g)) (f : Files D) → r.file ≡ Some conn → ClosesConn how conn f → closed' ≡ closed ++ f ∷ [] → IsRefused g image closed closed' r.fault
-  closed-again how conn f is closes order = (
-    Some f,
-    order,
-    inr (
-      how,
-      refuses_to (start_of image) stays how (Refused r) (Some f) None r.fault
-          (subst (λ (file : Option (Held (FileStore D g))). MatchOption file (◌≡◌ {A = Option (Files D)} (Some f) None) (λ conn. IsSomeAnd (Some f) (ClosesConn how conn))) (sym is) closes) (refl, refuses),
-    ),
-  )
+-- It was closed again.
+pub closed-again : {D : Type 0} {g : disk.Ghosts D} → SeenMayStay g → (image : Image) (fault : OpenFault)
+    (conn : Held (FileStore D g)) → RefusesRun image None (record { fault = fault; file = Some conn; unread = None })
+    → (how : Close) (f : Files D) → ClosesConn how conn f → (closed closed' : List (Files D)) → closed' ≡ closed ++ f ∷ []
+    → IsRefused g image closed closed' fault
+closed-again stays image fault conn refuses how f closes closed closed' order =
+    (Some f, order, inr (how, refuses_run_to (start_of image) stays how fault conn f closes refuses))
 
 -- The fault is in its contents.
 pub to-fault : {D : Type 0} (g : disk.Ghosts D) (image : Image) (closed closed' : List (Files D)) (fault : OpenFault) → IsRefused g image closed closed' fault → All (λ (f : Files D). AreClean g f.log f.db) closed' → IsFaultOf image fault

@@ -1,10 +1,11 @@
 //! A recall over the files of a chain.
 
-ghost use Rattle.std.specs.Prelude.{◌≡◌, ◌<◌, ◌^◌, [], None, Some, List, ℕ, IfErr, IfOk, IfSome, IsNone, length, map, string_bytes};
+ghost use Rattle.std.specs.Prelude.{◌≡◌, ◌<◌, ◌^◌, [], None, List, ℕ, IfErr, IfOk, IfSome, IsNone, length, map, string_bytes};
 ghost use Rattle.std.specs.Option.{option_map};
 ghost use Rattle.sqlite_wal.specs.Recovery.{Image};
 ghost use Rattle.desk_commands.specs.Closed.{ClosesConn};
-ghost use Rattle.desk_file.specs.Refused.{RefusesRun};
+ghost use Rattle.sqlite_disk.specs.declared.Files.{Files};
+ghost use Rattle.desk_file.specs.Unread.{IsJustOpened};
 ghost use Rattle.desk_types.specs.History.{History};
 ghost use Rattle.desk_types.specs.Wire.{failures_of};
 ghost use Rattle.feeder_state.specs.contracts.desk.StateDeskDesk.TheImpl.{ghosts as state};
@@ -16,10 +17,11 @@ ghost use Rattle.chain_stores.specs.Begin.{IsMarkOf};
 ghost use Rattle.chain_files.specs.Marks.{Follows, FollowsNone, IsWanted};
 ghost use Rattle.chain_files.specs.declared.marks.Wanted.{Wanted};
 ghost use Rattle.chain_files.specs.Files.{Adds, Continues, HasWanted, IsRefused, IsWhyStopped, Recalled, Stops, Takes, close_of, files_in, placed};
-ghost use Rattle.chain_files.specs.Kept.{AddsKept, AreKept};
+ghost use Rattle.chain_files.specs.Kept.{AddsKept, AreKept, ClosesKept};
+ghost use Rattle.chain_files.specs.Opened.{HoldNoDesk};
 
 use crate::closed::{ClosedChain, add_closed};
-use crate::kept::desk_in;
+use crate::kept::{NoDesk, desk_in};
 use crate::marks::{Links, Wanted, is_wanted, names_checksum, wanted_after, wanted_first};
 use crate::opener::Opener;
 use crate::texts::text_at;
@@ -28,7 +30,7 @@ use chain_check::{
 };
 use chain_stores::{Begin, Looked, look};
 use desk_commands::tell_line;
-use desk_file::{RefusedFile, close_file};
+use desk_file::close_file;
 use desk_types::{Desk, Wire};
 use feeder_state::StateDesk;
 use line_schema::OpenFault;
@@ -95,23 +97,24 @@ struct Older {
 }
 
 /// Looks into the file at a place, and closes it.
-pub fn look_at<O: Opener>(
+pub fn look_at<'a, O: Opener<'a>>(
     rt: &HostRuntime,
-    opener: &O,
+    opener: &mut O,
     place: u64,
-    path: &str,
+    path: &'a str,
     question: &Question,
     without_marks: bool,
     closed: &mut ClosedChain<O::File>,
 ) -> Result<Taken, OpenFault>
     ensures takes { IfOk result
-        (Takes ⟦<O::File as Disk>⟧ (O.image opener.now path.now place) question.now without_marks
+        (Takes ⟦<O::File as Disk>⟧ (O.image opener.old path.now place) question.now without_marks
         (files_in closed.old) (files_in closed.new)) }
     ensures refused { IfErr result
-        (IsRefused ⟦<O::File as Disk>⟧ (O.image opener.now path.now place)
+        (IsRefused ⟦<O::File as Disk>⟧ (O.image opener.old path.now place)
         (files_in closed.old) (files_in closed.new)) }
-    ensures kept { AddsKept ⟦<O::File as Disk>⟧ (O.image opener.now path.now place)
-        (files_in closed.old) (files_in closed.new) }
+    ensures kept { AddsKept ⟦<O::File as Disk>⟧ (O.image opener.old path.now place) path.now
+        (O.opened opener.old) (O.opened opener.new) (files_in closed.old) (files_in closed.new) }
+    ensures same { O.image opener.new ≡ O.image opener.old }
 {
     let files = opener.open(rt, place, path)?;
     match desk_in(rt, files) {
@@ -134,24 +137,30 @@ pub fn look_at<O: Opener>(
                 Err(_) => Err(OpenFault::Unavailable),
             }
         }
-        Err(refusal) => Err(shut(refusal, closed)),
+        Err(no_desk) => Err(shut(no_desk, closed)),
     }
 }
 
-/// Closes a file that was refused. Returns its fault.
-fn shut<D: Disk + Drop>(refusal: RefusedFile<D>, closed: &mut ClosedChain<D>) -> OpenFault
-    ensures refused { (image : Image) → RefusesRun image None refusal
+/// Closes files without a desk. Returns their fault.
+fn shut<D: Disk + Drop>(no_desk: NoDesk<D>, closed: &mut ClosedChain<D>) -> OpenFault
+    ensures refused { (image : Image) (first : Files D) → IsJustOpened D.Disk image first
+        → HoldNoDesk first no_desk
         → IsRefused D.Disk image (files_in closed.old) (files_in closed.new) result }
-    ensures kept { (image : Image) → RefusesRun image None refusal
-        → AddsKept D.Disk image (files_in closed.old) (files_in closed.new) }
+    ensures kept { (image : Image) (first : Files D) → IsJustOpened D.Disk image first
+        → HoldNoDesk first no_desk
+        → ClosesKept D.Disk image (files_in closed.old) (files_in closed.new) }
 {
-    let RefusedFile { fault, file } = refusal;
-    let Some(file) = file else {
-        return fault;
-    };
-    let (_is_whole, files) = close_any(file);
-    add_closed(closed, files);
-    fault
+    match no_desk {
+        NoDesk::Unread(files) => {
+            add_closed(closed, files);
+            OpenFault::Unavailable
+        }
+        NoDesk::Refused { fault, file } => {
+            let (_is_whole, files) = close_any(file);
+            add_closed(closed, files);
+            fault
+        }
+    }
 }
 
 /// Closes a file, or leaves what could not be closed. Returns whether it was closed.
@@ -314,10 +323,10 @@ fn add_next(
 
 /// Goes through these files, the oldest first, and prints a line for each. Returns the answer and, in `closed`, the
 /// files that it closed, which clauses name.
-pub fn recall_files<O: Opener, E: Write>(
+pub fn recall_files<'a, O: Opener<'a>, E: Write>(
     rt: &HostRuntime,
-    opener: &O,
-    paths: &[String],
+    opener: &mut O,
+    paths: &'a [String],
     question: &Question,
     links: Links,
     errors: &mut Wire<E>,
@@ -326,13 +335,13 @@ pub fn recall_files<O: Opener, E: Write>(
     requires none { files_in closed.old ≡ [] }
     requires few { failures_of errors.old < 2 ^ 63 }
     ensures recalled { IfOk result
-        (Recalled ⟦<O::File as Disk>⟧ (O.image opener.now) question.now links
+        (Recalled ⟦<O::File as Disk>⟧ (O.image opener.old) question.now links
         (map string_bytes paths.now) (files_in closed.new) (length paths.now)) }
     ensures stopped { IfErr result
-        (IsWhyStopped ⟦<O::File as Disk>⟧ (O.image opener.now) links (map string_bytes paths.now)
+        (IsWhyStopped ⟦<O::File as Disk>⟧ (O.image opener.old) links (map string_bytes paths.now)
         (files_in closed.new)) }
-    ensures kept { AreKept ⟦<O::File as Disk>⟧
-        (placed (O.image opener.now) (map string_bytes paths.now)) (files_in closed.new) }
+    ensures kept { AreKept ⟦<O::File as Disk>⟧ (O.image opener.old) (map string_bytes paths.now)
+        (O.opened opener.old) (O.opened opener.new) (files_in closed.new) }
     ensures few { failures_of errors.new < 2 ^ 63 }
 {
     let Ok(mut answer) = begin_rows(rt.alloc(), question) else {

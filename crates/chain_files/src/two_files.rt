@@ -1,6 +1,6 @@
 //! The comparison of two files.
 
-ghost use Rattle.std.specs.Prelude.{◌≡◌, ◌⊎◌, []};
+ghost use Rattle.std.specs.Prelude.{◌≡◌, ◌⊎◌, ◌∷◌, []};
 ghost use Rattle.desk_commands.specs.Told.{TellsUnwritten};
 ghost use Rattle.desk_commands.specs.Wires.{HaveFewFailures};
 ghost use Rattle.chain_files.specs.Compared.{Finds, NoDesk, Shows, ShowsFront, placed_both};
@@ -20,30 +20,30 @@ use std::io::Write;
 
 /// Compares the desks in two files, and prints what it found. Returns the exit status and the files that it closed, which
 /// clauses name: the old file, and then the new one.
-pub fn alike<O: Opener, W: Write, E: Write>(
+pub fn alike<'a, O: Opener<'a>, W: Write, E: Write>(
     rt: &HostRuntime,
-    opener: &O,
-    old: &str,
-    new: &str,
+    opener: &mut O,
+    old: &'a str,
+    new: &'a str,
     output: &mut Wire<W>,
     errors: &mut Wire<E>,
 ) -> (u8, ClosedChain<O::File>)
     requires few { HaveFewFailures output.old errors.old }
     ensures status { (result.0 ≡ 0) ⊎ (result.0 ≡ 1) ⊎ (result.0 ≡ 3) ⊎ (result.0 ≡ 4) }
     ensures shown { (result.0 ≡ 0) ⊎ (result.0 ≡ 1)
-        → Shows (Finds ⟦<O::File as Disk>⟧ (placed_both (O.image opener.now) old.now new.now)
+        → Shows (Finds ⟦<O::File as Disk>⟧ (placed_both (O.image opener.old) old.now new.now)
         (files_in result.1))
         W.contents output.old output.new result.0 }
     ensures no_desk { result.0 ≡ 3
-        → NoDesk (Finds ⟦<O::File as Disk>⟧ (placed_both (O.image opener.now) old.now new.now)
+        → NoDesk (Finds ⟦<O::File as Disk>⟧ (placed_both (O.image opener.old) old.now new.now)
         (files_in result.1))
         E.contents output.old output.new errors.old errors.new }
     ensures failed { result.0 ≡ 4
         → TellsUnwritten E.contents output.old output.new errors.old errors.new
-        × ShowsFront (Finds ⟦<O::File as Disk>⟧ (placed_both (O.image opener.now) old.now new.now)
+        × ShowsFront (Finds ⟦<O::File as Disk>⟧ (placed_both (O.image opener.old) old.now new.now)
         (files_in result.1)) W.contents output.old output.new }
-    ensures kept { AreKept ⟦<O::File as Disk>⟧ (placed_both (O.image opener.now) old.now new.now)
-        (files_in result.1) }
+    ensures kept { AreKept ⟦<O::File as Disk>⟧ (O.image opener.old) (old.now ∷ new.now ∷ [])
+        (O.opened opener.old) (O.opened opener.new) (files_in result.1) }
 {
     let mut closed = ClosedChain::new();
     let found = compare_files(rt, opener, old, new, &mut closed);
@@ -52,18 +52,18 @@ pub fn alike<O: Opener, W: Write, E: Write>(
 }
 
 /// Compares the desks in two files, and closes both. Neither is made if it is missing.
-fn compare_files<O: Opener>(
+fn compare_files<'a, O: Opener<'a>>(
     rt: &HostRuntime,
-    opener: &O,
-    old: &str,
-    new: &str,
+    opener: &mut O,
+    old: &'a str,
+    new: &'a str,
     closed: &mut ClosedChain<O::File>,
 ) -> Compared
     requires none { files_in closed.old ≡ [] }
-    ensures found { Finds ⟦<O::File as Disk>⟧ (placed_both (O.image opener.now) old.now new.now)
+    ensures found { Finds ⟦<O::File as Disk>⟧ (placed_both (O.image opener.old) old.now new.now)
         (files_in closed.new) result }
-    ensures kept { AreKept ⟦<O::File as Disk>⟧ (placed_both (O.image opener.now) old.now new.now)
-        (files_in closed.new) }
+    ensures kept { AreKept ⟦<O::File as Disk>⟧ (O.image opener.old) (old.now ∷ new.now ∷ [])
+        (O.opened opener.old) (O.opened opener.new) (files_in closed.new) }
 {
     let first = match look_at(rt, opener, 0, old, &Question::Chain, true, closed) {
         Ok(first) => first,

@@ -8,7 +8,7 @@ ghost use Rattle.desk_commands.specs.Told.{unavailable_line, TellsLine, TellsUnw
 ghost use Rattle.desk_commands.specs.Wires.{HaveFewFailures};
 ghost use Rattle.trace_reports.specs.Csv.{HasWritten};
 ghost use Rattle.chain_files.specs.Compared.{Shows};
-ghost use Rattle.chain_files.specs.Files.{files_in, placed};
+ghost use Rattle.chain_files.specs.Files.{files_in};
 ghost use Rattle.chain_files.specs.Kept.{AreKept, KeepsNamed};
 ghost use Rattle.chain_files.specs.Stops.{status_of, stop_line, without_marks_line};
 ghost use Rattle.chain_files.specs.Whole.{Answers, AnswersFront, Bad, Compares, Done, Fails, IsStopped, RefusesList, SaysLinks, Stops, StopsAt, Unlike, list_line};
@@ -33,38 +33,38 @@ use trace_reports::TextWriter;
 
 /// Runs the program with these arguments. Returns the exit status, and the files that it closed, which clauses name: those
 /// of a recall or a comparison, in the order in which they were named.
-pub fn program<O: Opener + Folder, W: Write, E: Write>(
+pub fn program<'a, O: Opener<'a> + Folder, W: Write, E: Write>(
     rt: &HostRuntime,
-    opener: &O,
-    words: &[String],
+    opener: &mut O,
+    words: &'a [String],
     output: &mut Wire<W>,
     errors: &mut Wire<E>,
 ) -> (u8, ClosedChain<O::File>)
     requires few { HaveFewFailures output.old errors.old }
     ensures ends { (result.0 ≤ 5)
-        × KeepsNamed ⟦<O::File as Disk>⟧ (O.image opener.now) (files_in result.1)
-        (map string_bytes words.now) }
+        × KeepsNamed ⟦<O::File as Disk>⟧ (O.image opener.old) (O.opened opener.old)
+        (O.opened opener.new) (files_in result.1) (map string_bytes words.now) }
     ensures done { result.0 ≡ 0
-        → Done ⟦<O::File as Disk>⟧ (O.image opener.now) (O.holds opener.now) (files_in result.1)
+        → Done ⟦<O::File as Disk>⟧ (O.image opener.old) (O.holds opener.old) (files_in result.1)
         (map string_bytes words.now) W.contents E.contents output.old output.new errors.new
         ⊎ Shows
-        (Compares ⟦<O::File as Disk>⟧ (O.image opener.now) (files_in result.1)
+        (Compares ⟦<O::File as Disk>⟧ (O.image opener.old) (files_in result.1)
         (map string_bytes words.now)) W.contents output.old output.new 0 }
     ensures stopped { IsStopped result.0
         → (output.new ≡ output.old)
-        × (Stops ⟦<O::File as Disk>⟧ (O.image opener.now) (O.holds opener.now) (files_in result.1)
+        × (Stops ⟦<O::File as Disk>⟧ (O.image opener.old) (O.holds opener.old) (files_in result.1)
         (map string_bytes words.now) E.contents errors.new result.0
-        ⊎ RefusesList (O.holds opener.now) (O.may_fail opener.now) (files_in result.1)
+        ⊎ RefusesList (O.holds opener.old) (O.may_fail opener.old) (files_in result.1)
         (map string_bytes words.now) E.contents errors.old errors.new result.0)
         ⊎ Unlike
-        (Compares ⟦<O::File as Disk>⟧ (O.image opener.now) (files_in result.1)
+        (Compares ⟦<O::File as Disk>⟧ (O.image opener.old) (files_in result.1)
         (map string_bytes words.now)) W.contents E.contents output.old output.new errors.old
         errors.new result.0 }
     ensures bad { result.0 ≡ 2
         → Bad (files_in result.1) (map string_bytes words.now) E.contents output.old output.new
         errors.old errors.new }
     ensures failed { result.0 ≡ 4
-        → Fails ⟦<O::File as Disk>⟧ (O.image opener.now) (O.holds opener.now) (files_in result.1)
+        → Fails ⟦<O::File as Disk>⟧ (O.image opener.old) (O.holds opener.old) (files_in result.1)
         (map string_bytes words.now) W.contents E.contents output.old output.new errors.old
         errors.new }
 {
@@ -74,7 +74,7 @@ pub fn program<O: Opener + Folder, W: Write, E: Write>(
             word,
             links,
             files,
-        } => match question_of(rt.alloc(), opener, asked, word) {
+        } => match question_of(rt.alloc(), &*opener, asked, word) {
             Ok(question) => answer(rt, opener, &question, links, files, output, errors),
             Err(fault) => (
                 tell_list(rt.alloc(), word, fault, errors),
@@ -95,31 +95,31 @@ pub fn program<O: Opener + Folder, W: Write, E: Write>(
 }
 
 /// Recalls over the files, and prints the answer, or why there is none.
-fn answer<O: Opener, W: Write, E: Write>(
+fn answer<'a, O: Opener<'a>, W: Write, E: Write>(
     rt: &HostRuntime,
-    opener: &O,
+    opener: &mut O,
     question: &Question,
     links: Links,
-    paths: &[String],
+    paths: &'a [String],
     output: &mut Wire<W>,
     errors: &mut Wire<E>,
 ) -> (u8, ClosedChain<O::File>)
     requires few { HaveFewFailures output.old errors.old }
     ensures status { (result.0 ≤ 1) ⊎ (3 ≤ result.0) × (result.0 ≤ 5) }
     ensures done { result.0 ≡ 0
-        → Answers ⟦<O::File as Disk>⟧ (O.image opener.now) (files_in result.1) question.now
+        → Answers ⟦<O::File as Disk>⟧ (O.image opener.old) (files_in result.1) question.now
         links (map string_bytes paths.now) W.contents E.contents output.old output.new
         errors.new }
     ensures stopped { IsStopped result.0
         → (output.new ≡ output.old)
-        × StopsAt ⟦<O::File as Disk>⟧ (O.image opener.now) (files_in result.1) links
+        × StopsAt ⟦<O::File as Disk>⟧ (O.image opener.old) (files_in result.1) links
         (map string_bytes paths.now) E.contents errors.new result.0 }
     ensures failed { result.0 ≡ 4
-        → AnswersFront ⟦<O::File as Disk>⟧ (O.image opener.now) (files_in result.1) question.now
+        → AnswersFront ⟦<O::File as Disk>⟧ (O.image opener.old) (files_in result.1) question.now
         links (map string_bytes paths.now) W.contents E.contents output.old output.new
         errors.new }
-    ensures kept { AreKept ⟦<O::File as Disk>⟧
-        (placed (O.image opener.now) (map string_bytes paths.now)) (files_in result.1) }
+    ensures kept { AreKept ⟦<O::File as Disk>⟧ (O.image opener.old) (map string_bytes paths.now)
+        (O.opened opener.old) (O.opened opener.new) (files_in result.1) }
 {
     let mut closed = ClosedChain::new();
     match recall_files(rt, opener, paths, question, links, errors, &mut closed) {

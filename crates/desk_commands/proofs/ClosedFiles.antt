@@ -4,15 +4,18 @@ use Rattle.desk_types.proofs.Common.{IsTrue, length, None, Option, refl, Some, s
 use Rattle.line_tables.proofs.Common.{Database, file_state, HasCleanDisk, Held, LeavesMigrated, One, Opens}
 use Rattle.line_tables.proofs.Common.{over_files, State, Trees}
 use Rattle.desk_answers.specs.Ledger.{Ledger}
-use Rattle.desk_commands.specs.Closed.{AuditsTo, Close, ClosesLeft, failed, HoldsDesk, HoldsFound}
-use Rattle.desk_commands.specs.Closed.{IsRefusedTo, MigratesTo, RefusesTo, RefusesToMigrateTo, RunsTo, whole}
+use Rattle.desk_commands.specs.Closed.{AuditsTo, Close, ClosesConn, ClosesLeft, failed, HoldsDesk, HoldsFound}
+use Rattle.desk_commands.specs.Closed.{IsRefusedTo, IsUnreadTo, MigratesTo, RefusesTo, RefusesToMigrateTo, RunsTo}
+use Rattle.desk_commands.specs.Closed.{whole}
 use Rattle.desk_commands.specs.Runs.{Audits, Migrates, Refuses, RefusesToMigrate, RunsOn}
 use Rattle.desk_commands.specs.declared.left.ToClose.{ToClose}
 use Rattle.desk_commands.specs.declared.left.ToClose.TheVariants.{Desk, Migrated, Nothing, Refused}
 use Rattle.desk_file.proofs.FirstLists.{found}
 use Rattle.desk_file.specs.Files.{IsFoundIn, IsLeft}
 use Rattle.desk_file.specs.Refused.{idle_state, IsFaultFor, IsFaultIn, IsRefused, IsUnchangedSince}
-use Rattle.desk_file.specs.Refused.{LeavesMade}
+use Rattle.desk_file.specs.Refused.{LeavesMade, RefusesRun}
+use Rattle.desk_file.specs.Unread.{IsUnreadAt}
+use Rattle.desk_file.specs.declared.refusal.RefusedFile.{RefusedFile}
 use Rattle.feeder_state.specs.contracts.desk.StateDeskDesk.TheImpl.{ghosts as state}
 use Rattle.feeder_state.specs.declared.desk.StateDesk.{StateDesk}
 use Rattle.line_replay.specs.Rows.{ledger_tables}
@@ -29,7 +32,7 @@ use Rattle.sqlite_wal.specs.Files.{image_at}
 use Rattle.sqlite_wal.specs.Reads.{AreClean}
 use Rattle.sqlite_wal.specs.Recovery.{Image}
 use Rattle.std.proofs.lemmas.Bool.{both_ways}
-use Rattle.std.specs.Prelude.{MatchOption}
+use Rattle.std.specs.Prelude.{IsSomeAnd, MatchOption}
 use Rattle.sqlite_disk.specs.declared.Disk as disk
 use Rattle.sqlite_disk.specs.declared.start.Start as start
 
@@ -127,38 +130,73 @@ module _ {T D : Type 0} {g : disk.Ghosts D} (first : start.Ghosts T) where
     ],
   )
 
-  refused_to : SeenMayStay g → (how : Close) (StandsIn : OpenFault → Type 0) (Commits : State → Trees → Type 0) → IsCalm Commits → (MakesNone : Type 0) (fault : OpenFault) (file : Option (Held (FileStore D g))) (files : Option (Files D))
-      → ClosesLeft how (Refused (record { fault = fault; file = file })) files → IsRefused (image_at first) StandsIn Commits MakesNone (record { fault = fault; file = file }) → IsRefusedTo how first g files StandsIn Commits MakesNone fault
-  refused_to stays how StandsIn Commits calm MakesNone fault None files closed is = (
-    subst (λ (o : Option (Files D)). MatchOption o ((fault ≡ Unavailable) ⊎ ((fault ≡ NotADesk) × MakesNone)) (λ f. AreClean g f.log f.db → StandsIn fault × HoldsFound how g f (image_at first) Commits)) (sym closed) (is.unopened refl),
-    is.never,
-  )
-  refused_to stays how StandsIn Commits calm MakesNone fault (Some conn) None closed is = absurd closed
-  refused_to stays whole StandsIn Commits calm MakesNone fault (Some conn) (Some f) closed is = (
-    λ clean.
-        let copied = closed.1 clean in
-        (is.fault copied.was_clean, holds_found conn f (image_at first) copied is.found Commits),
-    is.never,
-  )
-  refused_to stays failed StandsIn Commits calm MakesNone fault (Some conn) (Some f) closed is = (
-    λ clean.
-        let left = closed clean in
-        (is.fault left.was_clean, found_left stays conn is.since.0 f (image_at first) Commits calm left is.since.1),
-    is.never,
-  )
+  module _ (stays : SeenMayStay g) (StandsIn : OpenFault → Type 0) (Commits : State → Trees → Type 0)
+      (calm : IsCalm Commits) (MakesNone : Type 0) where
+    abbrev Is : RefusedFile D g → Type 0
+    Is = IsRefused (image_at first) StandsIn Commits MakesNone
 
-  pub refuses_to : SeenMayStay g → (how : Close) (left : ToClose D g) (files : Option (Files D)) (make : Option ℕ) (fault : OpenFault) → ClosesLeft how left files → Refuses first make left fault → RefusesTo how first g files make fault
+    -- The database was refused, and its connection closed.
+    refused_to : (how : Close) (fault : OpenFault) (conn : Held (FileStore D g)) (unread : Option (Files D))
+        (f : Files D) → ClosesConn how conn f → Is (record { fault = fault; file = Some conn; unread = unread })
+        → IsRefusedTo how first g (Some f) StandsIn Commits MakesNone fault
+    refused_to whole fault conn unread f closed is = (
+      λ clean.
+          let copied = closed.1 clean in
+          (is.fault copied.was_clean, holds_found conn f (image_at first) copied is.found Commits),
+      is.never,
+    )
+    refused_to failed fault conn unread f closed is = (
+      λ clean.
+          let left = closed clean in
+          (is.fault left.was_clean, found_left stays conn is.since.0 f (image_at first) Commits calm left is.since.1),
+      is.never,
+    )
+
+    refused_or_unread : (how : Close) (fault : OpenFault) (file : Option (Held (FileStore D g)))
+        (unread files : Option (Files D))
+        → ClosesLeft how (Refused (record { fault = fault; file = file; unread = unread })) files
+        → Is (record { fault = fault; file = file; unread = unread })
+        → IsRefusedTo how first g files StandsIn Commits MakesNone fault ⊎ IsUnreadTo first g files fault
+    refused_or_unread how fault None None files closed is = inl (
+      subst (λ (o : Option (Files D)). MatchOption o ((fault ≡ Unavailable) ⊎ ((fault ≡ NotADesk) × MakesNone))
+          (λ f. AreClean g f.log f.db → StandsIn fault × HoldsFound how g f (image_at first) Commits))
+          (sym closed) (is.unopened refl),
+      is.never,
+    )
+    refused_or_unread how fault None (Some f) files closed is =
+        let Left : Option (Files D) → Type 0 = λ o. IsSomeAnd o (IsUnreadAt g (image_at first)) in
+        inr (is.unread.0, subst Left (sym closed) is.unread.2)
+    refused_or_unread how fault (Some conn) unread None closed is = absurd closed
+    refused_or_unread how fault (Some conn) unread (Some f) closed is =
+        inl (refused_to how fault conn unread f closed is)
+
+  pub refuses_to : SeenMayStay g → (how : Close) (left : ToClose D g) (files : Option (Files D)) (make : Option ℕ)
+      (fault : OpenFault) → ClosesLeft how left files → Refuses first make left fault
+      → RefusesTo how first g files make fault ⊎ IsUnreadTo first g files fault
   refuses_to stays how Nothing files make fault closed refuses = absurd refuses
   refuses_to stays how (Desk d) files make fault closed refuses = absurd refuses
   refuses_to stays how (Migrated conn) files make fault closed refuses = absurd refuses
   refuses_to stays how (Refused r) files make fault closed refuses =
-      subst (λ (it : OpenFault). RefusesTo how first g files make it) refuses.0
-      (refused_to stays how (IsFaultFor (image_at first) make) (LeavesMade make) (calm_made make) (make ≡ None) r.fault r.file files closed refuses.1)
+      subst (λ (it : OpenFault). RefusesTo how first g files make it ⊎ IsUnreadTo first g files it) refuses.0
+      (refused_or_unread stays (IsFaultFor (image_at first) make) (LeavesMade make) (calm_made make) (make ≡ None)
+      how r.fault r.file r.unread files closed refuses.1)
 
-  pub refuses_to_migrate : SeenMayStay g → (how : Close) (left : ToClose D g) (files : Option (Files D)) (fault : OpenFault) → ClosesLeft how left files → RefusesToMigrate first left fault → RefusesToMigrateTo how first g files fault
+  pub refuses_to_migrate : SeenMayStay g → (how : Close) (left : ToClose D g) (files : Option (Files D))
+      (fault : OpenFault) → ClosesLeft how left files → RefusesToMigrate first left fault
+      → RefusesToMigrateTo how first g files fault ⊎ IsUnreadTo first g files fault
   refuses_to_migrate stays how Nothing files fault closed refuses = absurd refuses
   refuses_to_migrate stays how (Desk d) files fault closed refuses = absurd refuses
   refuses_to_migrate stays how (Migrated conn) files fault closed refuses = absurd refuses
   refuses_to_migrate stays how (Refused r) files fault closed refuses =
-      subst (λ (it : OpenFault). RefusesToMigrateTo how first g files it) refuses.0
-      (refused_to stays how (IsFaultIn (image_at first) One) LeavesMigrated calm_migrated ⊤ r.fault r.file files closed refuses.1)
+      subst (λ (it : OpenFault). RefusesToMigrateTo how first g files it ⊎ IsUnreadTo first g files it) refuses.0
+      (refused_or_unread stays (IsFaultIn (image_at first) One) LeavesMigrated calm_migrated ⊤
+      how r.fault r.file r.unread files closed refuses.1)
+
+  -- A run that may make no desk refused the database.
+  pub refuses_run_to : SeenMayStay g → (how : Close) (fault : OpenFault) (conn : Held (FileStore D g)) (f : Files D)
+      → ClosesConn how conn f
+      → RefusesRun (image_at first) None (record { fault = fault; file = Some conn; unread = None })
+      → RefusesTo how first g (Some f) None fault
+  refuses_run_to stays how fault conn f closed is =
+      refused_to stays (IsFaultFor (image_at first) None) (LeavesMade None) (calm_made None)
+      (◌≡◌ {A = Option ℕ} None None) how fault conn None f closed is

@@ -1,5 +1,5 @@
 -- The effect of a run on the files that it closed.
-use Rattle.std.specs.Prelude.{◌≡◌, ◌≢◌, ◌⊎◌, ⊤, ℕ, false, Option, None, IsSomeAnd, MatchOption, length}
+use Rattle.std.specs.Prelude.{◌≡◌, ◌≢◌, ◌⊎◌, ⊤, ℕ, Bool, true, false, Option, None, IsSomeAnd, MatchOption, length}
 use Rattle.sqlite_disk.specs.declared.Disk as disk
 use Rattle.sqlite_disk.specs.declared.Files.{Files}
 use Rattle.sqlite_disk.specs.declared.start.Start as start
@@ -28,7 +28,9 @@ use Rattle.line_schema.specs.declared.fault.OpenFault.TheVariants.{NotADesk, Not
 use Rattle.line_schema.specs.declared.store.LineStore.{LineStore}
 use Rattle.line_schema.specs.Stands.{HasFailed, conn_of}
 use Rattle.desk_file.specs.Files.{Begins, Closes, Copies, HasOursFirst, IsFoundIn, IsLeft, IsOfOne, IsWhole, KeepsTables, Leaves, MayRead, ReadsAs}
+use Rattle.desk_file.specs.Opened.{is_open_still}
 use Rattle.desk_file.specs.Refused.{IsFaultFor, IsFaultIn, LeavesMade, idle_state}
+use Rattle.desk_file.specs.Unread.{IsUnreadAt}
 use Rattle.desk_commands.specs.declared.left.ToClose.{ToClose}
 use Rattle.desk_commands.specs.declared.left.ToClose.TheVariants.{Nothing, Desk, Migrated, Refused}
 
@@ -59,7 +61,14 @@ ClosesLeft how Nothing files = files ≡ None
 ClosesLeft how (Desk desk) files = IsSomeAnd files (ClosesDesk how desk)
 ClosesLeft how (Migrated conn) files = IsSomeAnd files (ClosesConn how conn)
 ClosesLeft how (Refused r) files =
-    MatchOption r.file (files ≡ None) (λ conn. IsSomeAnd files (ClosesConn how conn))
+    MatchOption r.file (files ≡ r.unread) (λ conn. IsSomeAnd files (ClosesConn how conn))
+
+-- A command left a file open.
+abbrev pub is_left_open : {D : Type 0} {g : disk.Ghosts D} → ToClose D g → Bool
+is_left_open Nothing = false
+is_left_open (Desk desk) = true
+is_left_open (Migrated conn) = true
+is_left_open (Refused r) = is_open_still r
 
 -- ---- contents of the files
 
@@ -143,3 +152,9 @@ abbrev pub RefusesToMigrateTo : {T D : Type 0} → Close → start.Ghosts T → 
     → Option (Files D) → OpenFault → Type 0
 RefusesToMigrateTo how first g files =
     IsRefusedTo how first g files (IsFaultIn (image_at first) One) LeavesMigrated ⊤
+
+-- No database could be opened in the files, and they weren't written over.
+abbrev pub IsUnreadTo : {T D : Type 0} → start.Ghosts T → disk.Ghosts D → Option (Files D)
+    → OpenFault → Type 0
+IsUnreadTo first g files fault =
+    (fault ≡ Unavailable) × IsSomeAnd files (IsUnreadAt g (image_at first))

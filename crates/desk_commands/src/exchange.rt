@@ -1,9 +1,11 @@
 //! Messages and files, answered by a desk in memory or in a file.
 
-ghost use Rattle.std.specs.Prelude.{◌+◌, ◌≤◌, None, Some};
+ghost use Rattle.std.specs.Prelude.{◌≡◌, ◌+◌, ◌≤◌, ◌||◌, None, Some};
 ghost use Rattle.desk_types.specs.declared.limits.TheConstants.{MOST_ENTRIES, MOST_READS};
 ghost use Rattle.desk_types.specs.Wire.{reads_of};
 ghost use Rattle.line_schema.specs.declared.fault.OpenFault.TheVariants.{Unavailable};
+ghost use Rattle.desk_file.specs.Opened.{has_opened};
+ghost use Rattle.desk_commands.specs.Closed.{is_left_open};
 ghost use Rattle.desk_commands.specs.Ends.{FeedEnds, ImportEnds};
 ghost use Rattle.desk_commands.specs.OpenRuns.{StaysSame};
 ghost use Rattle.desk_commands.specs.Told.{TellsLine};
@@ -16,7 +18,7 @@ use crate::left::ToClose;
 use crate::lines::feed_lines;
 use crate::refusal::tell_refusal;
 use desk_feed::Folder;
-use desk_file::{in_memory, open_desk};
+use desk_file::{FileOpener, in_memory, open_desk};
 use desk_types::Wire;
 use feeder_state::StateDesk;
 use imports::Import;
@@ -60,14 +62,13 @@ pub fn feed_in_memory<R: Read, W: Write, E: Write>(
 pub fn feed_in_file<T: Start, R: Read, W: Write, E: Write>(
     rt: &HostRuntime,
     file: &str,
-    start: T,
+    opener: &mut FileOpener<T>,
     greatest: u32,
     input: &mut Wire<R>,
     output: &mut Wire<W>,
     errors: &mut Wire<E>,
 ) -> (u8, ToClose<FileFrom<T>>)
-    requires least { 1 ≤ greatest }
-    requires most { greatest ≤ MOST_ENTRIES }
+    requires range { (1 ≤ greatest) × (greatest ≤ MOST_ENTRIES) }
     requires few { HaveFewCounts input.old output.old errors.old }
     // For each way to end: what was read, written and told, and the status.
     ensures ends { FeedEnds R.remaining W.contents E.contents
@@ -77,9 +78,10 @@ pub fn feed_in_file<T: Start, R: Read, W: Write, E: Write>(
         (TellsLine E.contents errors.old errors.new)) result.0 }
     // The desk isn't closed here: its caller does it, and tells when that fails.
     ensures left { LeavesDesk result.1 }
+    ensures told { has_opened opener.new ≡ (is_left_open result.1 || has_opened opener.old) }
     ensures few_reads { reads_of input.new ≤ reads_of input.old + MOST_READS }
 {
-    match open_desk::<T, StateDesk>(rt, file, start, Some(greatest)) {
+    match open_desk::<T, StateDesk>(rt, file, opener, Some(greatest)) {
         Ok(store) => {
             let mut store = store;
             let status = feed_lines(rt.alloc(), input, output, errors, &mut store);
@@ -96,7 +98,7 @@ pub fn feed_in_file<T: Start, R: Read, W: Write, E: Write>(
 pub fn import_in_file<T: Start, F: Folder, W: Write, E: Write>(
     rt: &HostRuntime,
     file: &str,
-    start: T,
+    opener: &mut FileOpener<T>,
     import: &Import,
     folder: &F,
     from: &str,
@@ -111,8 +113,9 @@ pub fn import_in_file<T: Start, F: Folder, W: Write, E: Write>(
         (TellsLine E.contents errors.old errors.new)) result.0 }
     // The desk isn't closed here: its caller does it, and tells when that fails.
     ensures left { LeavesDesk result.1 }
+    ensures told { has_opened opener.new ≡ (is_left_open result.1 || has_opened opener.old) }
 {
-    let opened = open_desk::<T, StateDesk>(rt, file, start, None);
+    let opened = open_desk::<T, StateDesk>(rt, file, opener, None);
     match opened {
         Ok(store) => {
             let mut store = store;

@@ -1,10 +1,12 @@
 //! Requests, answered by a desk in a file.
 
-ghost use Rattle.std.specs.Prelude.{◌≡◌, ◌≤◌, None, Some};
+ghost use Rattle.std.specs.Prelude.{◌≡◌, ◌≤◌, ◌||◌, None, Some};
 ghost use Rattle.desk_types.specs.declared.limits.TheConstants.{MOST_ENTRIES};
 ghost use Rattle.gateway_http.specs.Requests.{request_rule};
 ghost use Rattle.gateway_http.specs.Reports.{report_of};
 ghost use Rattle.desk_commands.specs.Clients.{ServesAt};
+ghost use Rattle.desk_file.specs.Opened.{has_opened};
+ghost use Rattle.desk_commands.specs.Closed.{is_left_open};
 ghost use Rattle.desk_commands.specs.Ends.{ReportEnds, ServingEnds};
 ghost use Rattle.desk_commands.specs.OpenRuns.{AnswersReport};
 ghost use Rattle.desk_commands.specs.Told.{TellsLine};
@@ -15,7 +17,7 @@ use crate::clients::Clients;
 use crate::left::ToClose;
 use crate::port::{serve_port, tell_report};
 use crate::refusal::tell_refusal;
-use desk_file::open_desk;
+use desk_file::{FileOpener, open_desk};
 use desk_types::Wire;
 use feeder_state::StateDesk;
 use sqlite::{FileFrom, Start};
@@ -26,7 +28,7 @@ use std::io::Write;
 pub fn serve_in_file<T: Start, C: Clients, W: Write, E: Write>(
     rt: &HostRuntime,
     file: &str,
-    start: T,
+    opener: &mut FileOpener<T>,
     clients: &mut C,
     port: u16,
     connections: u32,
@@ -36,8 +38,7 @@ pub fn serve_in_file<T: Start, C: Clients, W: Write, E: Write>(
 ) -> (u8, ToClose<FileFrom<T>>)
     // To serve nobody is a fault of the command line, which is read before.
     requires some { 1 ≤ connections }
-    requires least { 1 ≤ greatest }
-    requires most { greatest ≤ MOST_ENTRIES }
+    requires range { (1 ≤ greatest) × (greatest ≤ MOST_ENTRIES) }
     requires few { HaveFewFailures output.old errors.old }
     // Each way to end; where the desk was refused no client was waited for.
     ensures ends { ServingEnds W.contents E.contents output.old output.new errors.old errors.new
@@ -46,8 +47,9 @@ pub fn serve_in_file<T: Start, C: Clients, W: Write, E: Write>(
         (HasNoDesk (Refuses T.Start (Some greatest) result.1) ⊥
         (TellsLine E.contents errors.old errors.new) × (clients.new ≡ clients.old)) result.0 }
     ensures left { LeavesDesk result.1 }
+    ensures told { has_opened opener.new ≡ (is_left_open result.1 || has_opened opener.old) }
 {
-    match open_desk::<T, StateDesk>(rt, file, start, Some(greatest)) {
+    match open_desk::<T, StateDesk>(rt, file, opener, Some(greatest)) {
         Ok(store) => {
             let mut store = store;
             let status = serve_port(
@@ -73,7 +75,7 @@ pub fn serve_in_file<T: Start, C: Clients, W: Write, E: Write>(
 pub fn report_in_file<T: Start, W: Write, E: Write>(
     rt: &HostRuntime,
     file: &str,
-    start: T,
+    opener: &mut FileOpener<T>,
     target: &str,
     output: &mut Wire<W>,
     errors: &mut Wire<E>,
@@ -85,8 +87,9 @@ pub fn report_in_file<T: Start, W: Write, E: Write>(
         (HasNoDesk (Refuses T.Start None result.1) ⊥
         (TellsLine E.contents errors.old errors.new)) result.0 }
     ensures left { LeavesDesk result.1 }
+    ensures told { has_opened opener.new ≡ (is_left_open result.1 || has_opened opener.old) }
 {
-    match open_desk::<T, StateDesk>(rt, file, start, None) {
+    match open_desk::<T, StateDesk>(rt, file, opener, None) {
         Ok(store) => {
             let mut store = store;
             let status = tell_report(rt.alloc(), target, output, errors, &mut store);

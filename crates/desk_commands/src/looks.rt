@@ -1,6 +1,8 @@
 //! A desk in a file, audited or migrated.
 
-ghost use Rattle.std.specs.Prelude.{◌≡◌, ◌⊎◌, None, ℕ};
+ghost use Rattle.std.specs.Prelude.{◌≡◌, ◌⊎◌, ◌||◌, None, ℕ};
+ghost use Rattle.desk_file.specs.Opened.{has_opened};
+ghost use Rattle.desk_commands.specs.Closed.{is_left_open};
 ghost use Rattle.desk_commands.specs.Ends.{PrintEnds};
 ghost use Rattle.desk_commands.specs.OpenRuns.{StaysSame};
 ghost use Rattle.desk_commands.specs.Told.{lawful_line, version_line, TellsLine};
@@ -10,7 +12,7 @@ ghost use Rattle.desk_commands.specs.Runs.{Audits, HasNoDesk, LeavesDesk, Leaves
 use crate::left::ToClose;
 use crate::refusal::tell_refusal;
 use crate::texts::{send_text, tell_lawful};
-use desk_file::{migrate_desk, open_desk};
+use desk_file::{FileOpener, migrate_desk, open_desk};
 use desk_types::Wire;
 use feeder_state::StateDesk;
 use sqlite::{FileFrom, Start};
@@ -21,7 +23,7 @@ use std::io::Write;
 pub fn audit_file<T: Start, W: Write, E: Write>(
     rt: &HostRuntime,
     file: &str,
-    start: T,
+    opener: &mut FileOpener<T>,
     output: &mut Wire<W>,
     errors: &mut Wire<E>,
 ) -> (u8, ToClose<FileFrom<T>>)
@@ -34,8 +36,9 @@ pub fn audit_file<T: Start, W: Write, E: Write>(
         (TellsLine E.contents errors.old errors.new)) result.0
         × ((result.0 ≡ 0) ⊎ (result.0 ≡ 4) → Audits T.Start result.1 count) }
     ensures left { LeavesDesk result.1 }
+    ensures told { has_opened opener.new ≡ (is_left_open result.1 || has_opened opener.old) }
 {
-    match open_desk::<T, StateDesk>(rt, file, start, None) {
+    match open_desk::<T, StateDesk>(rt, file, opener, None) {
         Ok(store) => {
             let status = tell_lawful(rt.alloc(), store.count(), output, errors);
             (status, ToClose::Desk(store))
@@ -52,7 +55,7 @@ pub fn audit_file<T: Start, W: Write, E: Write>(
 pub fn migrate_file<T: Start, W: Write, E: Write>(
     rt: &HostRuntime,
     file: &str,
-    start: T,
+    opener: &mut FileOpener<T>,
     output: &mut Wire<W>,
     errors: &mut Wire<E>,
 ) -> (u8, ToClose<FileFrom<T>>)
@@ -63,8 +66,9 @@ pub fn migrate_file<T: Start, W: Write, E: Write>(
     // Status 4 too: the file is migrated, and only the line about it could not be printed.
     ensures migrates { (result.0 ≡ 0) ⊎ (result.0 ≡ 4) → Migrates T.Start result.1 }
     ensures left { LeavesFile result.1 }
+    ensures told { has_opened opener.new ≡ (is_left_open result.1 || has_opened opener.old) }
 {
-    match migrate_desk::<T, StateDesk>(rt, file, start) {
+    match migrate_desk::<T, StateDesk>(rt, file, opener) {
         Ok(conn) => {
             let status = send_text("version 2\n", output, errors);
             (status, ToClose::Migrated(conn))

@@ -1,5 +1,5 @@
 -- The initial history of a run on the files.
-use Rattle.desk_types.proofs.Common.{[], ◌∙◌, ◌≡◌, ap, Bool, false, History, inl, inr, IsJudged}
+use Rattle.desk_types.proofs.Common.{[], ◌∙◌, ◌≡◌, ap, false, History, inl, inr, IsJudged}
 use Rattle.desk_types.proofs.Common.{IsPermutation, IsPermutation-sym, IsPermutation-trans, list_any, None}
 use Rattle.desk_types.proofs.Common.{Option, refl, Some, sym, true, true≢false, ℕ}
 use Rattle.line_tables.proofs.Common.{Database, Holds, HoldsAt, HoldsDatabase, is_ours, IsLive, Layout}

@@ -3,3 +3,4 @@ pub mod FirstLists
 pub mod Making
 pub mod RefusedFiles
 pub mod Truth
+pub mod UnreadFiles

@@ -1,5 +1,5 @@
 -- Files without a database.
-use Rattle.desk_types.proofs.Common.{◌≡◌, ◌≤◌, arith, subst, sym}
+use Rattle.desk_types.proofs.Common.{◌≤◌, arith}
 use Rattle.line_tables.proofs.Common.{HoldsDatabase, Trees}
 use Rattle.desk_file.specs.Found.{IsNew}
 use Rattle.sqlite_pool.{proofs.ProbeLemmas.not_blank, specs.Stored.reserved}

@@ -1,14 +1,16 @@
 -- Files that are refused.
-use Rattle.desk_types.proofs.Common.{◌≡◌, ◌≢◌, ◌⊎◌, ap, arith, Err, false, IfErr, inl, inr, list_any, None}
+use Rattle.desk_types.proofs.Common.{◌≡◌, ◌≢◌, ◌⊎◌, ap, arith, Err, false, IfErr, IfSome, inl, inr, list_any, None}
 use Rattle.desk_types.proofs.Common.{Ok, Option, refl, Result, Some, subst, sym, true, ℕ}
 use Rattle.line_tables.proofs.Common.{Database, file_state, has_state, HasCleanDisk, Held, KeepsCommit, Opens}
 use Rattle.line_tables.proofs.Common.{Reads, Rules, State, Survives, Trees, Two}
 use Rattle.desk_file.proofs.FirstLists.{found}
 use Rattle.desk_file.specs.Files.{IsFoundIn}
 use Rattle.desk_file.specs.Found.{FindsAs}
-use Rattle.desk_file.specs.Refused.{idle_state, IsFaultFor, IsFaultIn, IsRefused, IsUnchangedSince}
+use Rattle.desk_file.specs.Refused.{idle_state, IsFaultFor, IsFaultIn, IsRefused, IsUnchangedSince, IsUnfound}
 use Rattle.desk_file.specs.Refused.{LeavesMade, RefusesRun}
+use Rattle.desk_file.specs.Unread.{IsUnreadAt}
 use Rattle.desk_file.specs.declared.refusal.RefusedFile.{RefusedFile}
+use Rattle.std.specs.Prelude.{IsErrAnd}
 use Rattle.line_schema.specs.Opening.{IsFaultBy, IsNamedBy, IsNoDeskBy, IsToldBy}
 use Rattle.line_schema.specs.declared.fault.OpenFault.{OpenFault}
 use Rattle.line_schema.specs.declared.fault.OpenFault.TheVariants.{NotADesk, NotBlank, NotLawful}
@@ -16,6 +18,7 @@ use Rattle.line_schema.specs.declared.fault.OpenFault.TheVariants.{OtherVersion,
 use Rattle.line_tables.specs.Names.{has_name, is_accepted, is_version}
 use Rattle.sqlite.specs.Files.{IsOpened}
 use Rattle.sqlite_schema.specs.declared.schema.Schema.{Schema}
+use Rattle.sqlite_disk.specs.declared.Files.{Files}
 use Rattle.sqlite_store.specs.declared.store.FileStore.{FileStore}
 use Rattle.sqlite_wal.specs.Recovery.{Image}
 use Rattle.sqlite_disk.specs.declared.Disk as disk
@@ -75,12 +78,13 @@ module _ {D : Type 0} {g : disk.Ghosts D} (image : Image) (first last : Held (Fi
       found image (file_state first) (finds before) at.0 at.1
 
   pub refused : (StandsIn : OpenFault → Type 0) (MakesNone : Type 0) (fault : OpenFault) → (HasCleanDisk (file_state last) → StandsIn fault) → (MakesNone → fault ≢ NotBlank)
-      → IsRefused image StandsIn Leaves MakesNone (record { fault = fault; file = Some last })
+      → IsRefused image StandsIn Leaves MakesNone (record { fault = fault; file = Some last; unread = None })
   refused StandsIn MakesNone fault stands never = record {
     unopened = λ none. absurd (cc);
     fault = stands;
     found = λ clean is_open. subst (λ (db : Database). IsFoundIn image db) (sym ((kept clean).committed is_open)) (found_first clean);
     since = (first, record { opened = λ clean. (opened clean, finds clean); kept = kept; survives = survives });
+    unread = tt;
     never = never;
   }
 
@@ -102,6 +106,43 @@ module _ {D : Type 0} {g : disk.Ghosts D} (image : Image) (first last : Held (Fi
       let at = opened (clean_before clean) in
       inr (refl, is, ((file_state first).committed, found_first clean, subst (λ (x : Schema). list_any has_name x.tables ≡ true) (ap (λ (db : Database). db.schema) at.0.clean) named))
 
+-- ---- nothing was found
+
+module _ {D : Type 0} {g : disk.Ghosts D} (image : Image) (StandsIn : OpenFault → Type 0)
+    (Leaves : State → Trees → Type 0) (MakesNone : Type 0) where
+  unfound_so : (file : Option (Held (FileStore D g))) (unread : Option (Files D)) → file ≡ None
+      → IfSome unread (IsUnreadAt g image)
+      → IsRefused image StandsIn Leaves MakesNone (record { fault = Unavailable; file = file; unread = unread })
+  unfound_so None None none kept = record {
+    unopened = λ _. inl refl;
+    fault = tt;
+    found = tt;
+    since = tt;
+    unread = tt;
+    never = λ _ is. absurd (cc);
+  }
+  unfound_so None (Some f) none kept = record {
+    unopened = λ _. inl refl;
+    fault = tt;
+    found = tt;
+    since = tt;
+    unread = (refl, refl, kept);
+    never = λ _ is. absurd (cc);
+  }
+  unfound_so (Some conn) unread none kept = absurd (cc)
+
+  pub unfound : (r : RefusedFile D g) → IsUnfound image r → IsRefused image StandsIn Leaves MakesNone r
+  unfound r is =
+      let Is : OpenFault → Type 0 =
+      λ fault. IsRefused image StandsIn Leaves MakesNone (record { fault = fault; file = r.file; unread = r.unread }) in
+      subst Is (sym is.0) (unfound_so r.file r.unread is.1 is.2)
+
+-- A refused file is passed on as it is.
+pub passed : {X D : Type 0} {g : disk.Ghosts D} (Is : RefusedFile D g → Type 0) (r : RefusedFile D g)
+    (result : Result X (RefusedFile D g)) → IsErrAnd result (λ r'. r' ≡ r) → Is r → IfErr result Is
+passed Is r (Ok x) same is = tt
+passed Is r (Err r') same is = subst Is (sym same) is
+
 -- ---- by a run
 
 survives_made : (old new : State) (make : Option ℕ) → Survives old new (λ _. ⊥) → Survives old new (LeavesMade make old)
@@ -117,25 +158,29 @@ survives_made old new make s = record {
 since_made : {D : Type 0} {g : disk.Ghosts D} (image : Image) (make : Option ℕ) (first last : Held (FileStore D g)) → IsUnchangedSince image (λ _ _. ⊥) first last → IsUnchangedSince image (LeavesMade make) first last
 since_made image make first last u = record { opened = u.opened; kept = u.kept; survives = survives_made (file_state first) (file_state last) make u.survives }
 
-refuses_so : {D : Type 0} {g : disk.Ghosts D} (image : Image) (make : Option ℕ) (fault : OpenFault) (file : Option (Held (FileStore D g))) → fault ≢ NotBlank
-    → IsRefused image (IsFaultIn image Two) (λ _ _. ⊥) ⊥ (record { fault = fault; file = file }) → RefusesRun image make (record { fault = fault; file = file })
-refuses_so image make fault None never is = record {
+refuses_so : {D : Type 0} {g : disk.Ghosts D} (image : Image) (make : Option ℕ) (fault : OpenFault)
+    (file : Option (Held (FileStore D g))) (unread : Option (Files D)) → fault ≢ NotBlank
+    → IsRefused image (IsFaultIn image Two) (λ _ _. ⊥) ⊥ (record { fault = fault; file = file; unread = unread })
+    → RefusesRun image make (record { fault = fault; file = file; unread = unread })
+refuses_so image make fault None unread never is = record {
   unopened = λ none. elim (is.unopened none) [ inl un ↦ inl un | inr made ↦ absurd made.1 ];
   fault = tt;
   found = tt;
   since = tt;
+  unread = is.unread;
   never = λ _. never;
 }
-refuses_so image make fault (Some conn) never is = record {
+refuses_so image make fault (Some conn) unread never is = record {
   unopened = λ none. absurd (cc);
   fault = λ clean. inl (is.fault clean);
   found = is.found;
   since = (is.since.0, since_made image make is.since.0 conn is.since.1);
+  unread = is.unread;
   never = λ _. never;
 }
 
 refuses_run : {D : Type 0} {g : disk.Ghosts D} (image : Image) (make : Option ℕ) (r : RefusedFile D g) → r.fault ≢ NotBlank → IsRefused image (IsFaultIn image Two) (λ _ _. ⊥) ⊥ r → RefusesRun image make r
-refuses_run image make r never is = refuses_so image make r.fault r.file never is
+refuses_run image make r never is = refuses_so image make r.fault r.file r.unread never is
 
 pub refuses : {X D : Type 0} {g : disk.Ghosts D} (image : Image) (make : Option ℕ) (result : Result X (RefusedFile D g)) → IfErr result (λ r. r.fault ≢ NotBlank) → IfErr result (IsRefused image (IsFaultIn image Two) (λ _ _. ⊥) ⊥)
     → IfErr result (RefusesRun image make)

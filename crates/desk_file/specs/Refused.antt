@@ -19,6 +19,7 @@ use Rattle.line_schema.specs.declared.fault.OpenFault.TheVariants.{NotADesk, Not
 use Rattle.line_schema.specs.Opening.{IsFaultBy, IsToldBy}
 use Rattle.desk_file.specs.declared.refusal.RefusedFile.{RefusedFile}
 use Rattle.desk_file.specs.Files.{IsFoundIn}
+use Rattle.desk_file.specs.Unread.{IsUnreadAt}
 
 -- ---- the fault
 
@@ -66,8 +67,14 @@ pub record IsUnchangedSince {D : Type 0} {g : disk.Ghosts D} (image : Image)
   pub kept : HasCleanDisk (file_state last) → KeepsCommit (file_state first) (file_state last)
   pub survives : Survives (file_state first) (file_state last) (Leaves (file_state first))
 
+-- Nothing was found in the files: they were not opened, or no database could be opened in them.
+abbrev pub IsUnfound : {D : Type 0} {g : disk.Ghosts D} → Image → RefusedFile D g → Type 0
+IsUnfound {g = g} image r =
+    (r.fault ≡ Unavailable) × (r.file ≡ None) × IfSome r.unread (IsUnreadAt g image)
+
 -- The files were refused. If the disk did not lie, the fault is in their contents, which are those that the connection
--- has committed. Without a connection it is Unavailable, or NotADesk if none may be made.
+-- has committed. Without a connection it is Unavailable, or NotADesk if none may be made, and files that were opened
+-- weren't written over.
 pub record IsRefused {D : Type 0} {g : disk.Ghosts D} (image : Image)
     (StandsIn : OpenFault → Type 0) (Leaves : State → Trees → Type 0) (MakesNone : Type 0)
     (r : RefusedFile D g) : Type 0 where
@@ -77,6 +84,8 @@ pub record IsRefused {D : Type 0} {g : disk.Ghosts D} (image : Image)
       → IsTrue (file_state conn).is_open → IsFoundIn image (file_state conn).committed)
   pub since : IfSome r.file
       (λ conn. (first : Held (FileStore D g)) × IsUnchangedSince image Leaves first conn)
+  pub unread : IfSome r.unread
+      (λ f. (r.fault ≡ Unavailable) × (r.file ≡ None) × IsUnreadAt g image f)
   pub never : MakesNone → r.fault ≢ NotBlank
 
 -- The tables that a crash may also leave of a run that may make a desk: those of an empty history.

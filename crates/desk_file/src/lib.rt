@@ -15,5 +15,5 @@ pub use memory_file::MemoryFile;
 pub use opening::{
     DeskFile, FileDesk, close_desk, close_file, is_empty_at, migrate_desk, open_desk,
 };
-pub use path::connect_to;
+pub use path::{FileOpener, connect_to, open_at};
 pub use refusal::RefusedFile;

@@ -1,6 +1,6 @@
 //! A desk's file: making, opening, migrating and closing it.
 
-ghost use Rattle.std.specs.Prelude.{◌≡◌, ◌≢◌, ◌≤◌, ◌==◌, [], true, false, Some, None, IfOk, IfErr, IfNone, IfSome};
+ghost use Rattle.std.specs.Prelude.{◌≡◌, ◌≢◌, ◌≤◌, ◌==◌, ◌||◌, [], true, false, Some, None, IfOk, IfErr, IfNone, IfSome, MatchResult};
 ghost use Rattle.std.specs.Fs.{IsFile, file_type, metadata_len};
 ghost use Rattle.sqlite_wal.specs.Files.{image_at};
 ghost use Rattle.sqlite.specs.State.{HasCleanDisk};
@@ -14,9 +14,10 @@ ghost use Rattle.line_tables.specs.Rows.{HoldsAt, blank};
 ghost use Rattle.line_schema.specs.declared.fault.OpenFault.TheVariants as Fault;
 ghost use Rattle.line_schema.specs.Stands.{Kept, Stands, conn_of, state_of};
 ghost use Rattle.desk_file.specs.Files.{Begins, Closes, Copies, FindsNoTable, HasOursFirst, KeepsTables, Leaves, MigratedFrom};
-ghost use Rattle.desk_file.specs.Refused.{IsFaultFor, IsFaultIn, IsRefused, LeavesMade, RefusesMigration, RefusesRun};
+ghost use Rattle.desk_file.specs.Opened.{has_opened, is_open_still};
+ghost use Rattle.desk_file.specs.Refused.{IsFaultFor, IsFaultIn, IsRefused, IsUnfound, LeavesMade, RefusesMigration, RefusesRun};
 
-use crate::path::open_path;
+use crate::path::{FileOpener, open_path};
 use crate::refusal::RefusedFile;
 use line_schema::{LineStore, OpenFault};
 use sqlite::{Connection, FileFrom, FileStore, Files, Start};
@@ -34,11 +35,12 @@ pub type DeskFile<T> = Connection<FileStore<FileFrom<T>>>;
 
 /// Opens the desk in the file at a path. If the file is missing or empty, a desk with an empty history is made if
 /// `make` gives its greatest number, from 1 to 1,000,000,000; otherwise the fault is NotADesk. A path that is no
-/// regular file, or can't be opened, is Unavailable. A refused file is returned unchanged.
+/// regular file, or can't be opened, is Unavailable. A refused file is returned unchanged, and so are the files in which no
+/// database can be opened.
 pub fn open_desk<T: Start, D: KeepsRows + Drop>(
     rt: &HostRuntime,
     path: &str,
-    start: T,
+    opener: &mut FileOpener<T>,
     make: Option<u32>,
 ) -> Result<FileDesk<T, D>, RefusedFile<FileFrom<T>>>
     requires range { IfSome make (λ greatest. (1 ≤ greatest) × (greatest ≤ MOST_ENTRIES)) }
@@ -54,15 +56,18 @@ pub fn open_desk<T: Start, D: KeepsRows + Drop>(
         (λ store. HasCleanDisk (state_of over_files store) → FindsNoTable (image_at T.Start)
         → IfSome make (λ greatest. (trees : Trees) → (state_of over_files store).may_leave trees
         → HoldsAt (blank greatest) trees)) }
+    ensures told { MatchResult result (λ _. has_opened opener.new ≡ true)
+        (λ r. has_opened opener.new ≡ (is_open_still r || has_opened opener.old)) }
 {
     let is_blank = is_blank::<T>(rt, path)?;
     match make {
-        Some(greatest) if is_blank => new_desk(rt, path, start, greatest),
+        Some(greatest) if is_blank => new_desk(rt, path, opener, greatest),
         None if is_blank => Err(RefusedFile {
             fault: OpenFault::NotADesk,
             file: None,
+            unread: None,
         }),
-        _ => kept_desk(rt, path, start),
+        _ => kept_desk(rt, path, opener),
     }
 }
 
@@ -72,25 +77,29 @@ pub fn open_desk<T: Start, D: KeepsRows + Drop>(
 pub fn migrate_desk<T: Start, D: KeepsRows + Drop>(
     rt: &HostRuntime,
     path: &str,
-    start: T,
+    opener: &mut FileOpener<T>,
 ) -> Result<DeskFile<T>, RefusedFile<FileFrom<T>>>
     ensures migrated { IfOk result
         (λ conn. HasCleanDisk (file_state conn) → HasOursFirst (image_at T.Start)
         → MigratedFrom (image_at T.Start) conn) }
     ensures refused { IfErr result (RefusesMigration (image_at T.Start)) }
+    ensures told { MatchResult result (λ _. has_opened opener.new ≡ true)
+        (λ r. has_opened opener.new ≡ (is_open_still r || has_opened opener.old)) }
 {
     if is_blank::<T>(rt, path)? {
         return Err(RefusedFile {
             fault: OpenFault::NotADesk,
             file: None,
+            unread: None,
         });
     }
-    let mut conn = connect(rt, path, start)?;
+    let mut conn = connect(rt, path, opener)?;
     match LineStore::<FileStore<FileFrom<T>>, D>::migrate(rt.alloc(), &mut conn) {
         Ok(_) => Ok(conn),
         Err(fault) => Err(RefusedFile {
             fault,
             file: Some(conn),
+            unread: None,
         }),
     }
 }
@@ -127,11 +136,12 @@ pub fn close_file<D: Disk + Drop>(
 
 /// Returns whether the path has no file, or an empty one.
 fn is_blank<T: Start>(rt: &HostRuntime, path: &str) -> Result<bool, RefusedFile<FileFrom<T>>>
-    ensures { IfErr result (λ r. r ≡ record { fault = Fault.Unavailable; file = None }) }
+    ensures { IfErr result
+        (λ r. r ≡ record { fault = Fault.Unavailable; file = None; unread = None }) }
 {
     match is_empty_at(rt, path) {
         Ok(empty) => Ok(empty),
-        Err(_) => Err(no_connection()),
+        Err(_) => Err(not_looked_at()),
     }
 }
 
@@ -162,12 +172,13 @@ fn has_no_byte(found: &Metadata) -> Option<bool>
     }
 }
 
-fn no_connection<T: Start>() -> RefusedFile<FileFrom<T>>
-    ensures { result ≡ record { fault = Fault.Unavailable; file = None } }
+fn not_looked_at<T: Start>() -> RefusedFile<FileFrom<T>>
+    ensures { result ≡ record { fault = Fault.Unavailable; file = None; unread = None } }
 {
     RefusedFile {
         fault: OpenFault::Unavailable,
         file: None,
+        unread: None,
     }
 }
 
@@ -175,11 +186,10 @@ fn no_connection<T: Start>() -> RefusedFile<FileFrom<T>>
 fn new_desk<T: Start, D: KeepsRows + Drop>(
     rt: &HostRuntime,
     path: &str,
-    start: T,
+    opener: &mut FileOpener<T>,
     greatest: u32,
 ) -> Result<FileDesk<T, D>, RefusedFile<FileFrom<T>>>
-    requires least { 1 ≤ greatest }
-    requires most { greatest ≤ MOST_ENTRIES }
+    requires range { (1 ≤ greatest) × (greatest ≤ MOST_ENTRIES) }
     ensures refused { IfErr result (RefusesRun (image_at T.Start) (Some greatest)) }
     ensures stands { IfOk result
         (λ store. (L : Kept) × Stands over_files D.Stands store L) }
@@ -192,13 +202,16 @@ fn new_desk<T: Start, D: KeepsRows + Drop>(
         (λ store. HasCleanDisk (state_of over_files store) → FindsNoTable (image_at T.Start)
         → (trees : Trees) → (state_of over_files store).may_leave trees
         → HoldsAt (blank greatest) trees) }
+    ensures told { MatchResult result (λ _. has_opened opener.new ≡ true)
+        (λ r. has_opened opener.new ≡ (is_open_still r || has_opened opener.old)) }
 {
-    let conn = connect(rt, path, start)?;
+    let conn = connect(rt, path, opener)?;
     match LineStore::create(rt.alloc(), conn, greatest) {
         Ok(store) => Ok(store),
         Err((fault, conn)) => Err(RefusedFile {
             fault,
             file: Some(conn),
+            unread: None,
         }),
     }
 }
@@ -206,7 +219,7 @@ fn new_desk<T: Start, D: KeepsRows + Drop>(
 fn kept_desk<T: Start, D: KeepsRows + Drop>(
     rt: &HostRuntime,
     path: &str,
-    start: T,
+    opener: &mut FileOpener<T>,
 ) -> Result<FileDesk<T, D>, RefusedFile<FileFrom<T>>>
     ensures stands { IfOk result
         (λ store. (L : Kept) × Stands over_files D.Stands store L) }
@@ -218,13 +231,16 @@ fn kept_desk<T: Start, D: KeepsRows + Drop>(
     ensures refused { IfErr result
         (IsRefused (image_at T.Start) (IsFaultIn (image_at T.Start) Two) (λ _ _. ⊥) ⊥) }
     ensures never { IfErr result (λ r. r.fault ≢ Fault.NotBlank) }
+    ensures told { MatchResult result (λ _. has_opened opener.new ≡ true)
+        (λ r. has_opened opener.new ≡ (is_open_still r || has_opened opener.old)) }
 {
-    let conn = connect(rt, path, start)?;
+    let conn = connect(rt, path, opener)?;
     match LineStore::open(rt.alloc(), conn) {
         Ok(store) => Ok(store),
         Err((fault, conn)) => Err(RefusedFile {
             fault,
             file: Some(conn),
+            unread: None,
         }),
     }
 }
@@ -233,16 +249,22 @@ fn kept_desk<T: Start, D: KeepsRows + Drop>(
 fn connect<T: Start>(
     rt: &HostRuntime,
     path: &str,
-    start: T,
+    opener: &mut FileOpener<T>,
 ) -> Result<DeskFile<T>, RefusedFile<FileFrom<T>>>
     ensures opened { IfOk result (λ conn. HasCleanDisk (file_state conn) → IsOpened conn) }
     ensures found { IfOk result (λ conn. HasCleanDisk (file_state conn)
         → FindsAs (image_at T.Start) (file_state conn)) }
     ensures mode { IfOk result (λ conn. conn.in_transaction ≡ false) }
-    ensures err { IfErr result (λ r. r ≡ record { fault = Fault.Unavailable; file = None }) }
+    ensures err { IfErr result (IsUnfound (image_at T.Start)) }
+    ensures told { MatchResult result (λ _. has_opened opener.new ≡ true)
+        (λ r. has_opened opener.new ≡ (is_open_still r || has_opened opener.old)) }
 {
-    match open_path(rt, path, start) {
+    match open_path(rt, path, opener) {
         Ok(conn) => Ok(conn),
-        Err(_) => Err(no_connection()),
+        Err(unread) => Err(RefusedFile {
+            fault: OpenFault::Unavailable,
+            file: None,
+            unread,
+        }),
     }
 }

@@ -1,5 +1,5 @@
 -- The effect of a run on the desk in its files, by its open files or by those that it closed.
-use Rattle.std.specs.Prelude.{◌≡◌, ℕ, Option, None}
+use Rattle.std.specs.Prelude.{◌≡◌, ◌⊎◌, ℕ, Option, None}
 use Rattle.sqlite_disk.specs.declared.Disk as disk
 use Rattle.sqlite_disk.specs.declared.Files.{Files}
 use Rattle.sqlite_disk.specs.declared.start.Start as start
@@ -9,7 +9,7 @@ use Rattle.line_schema.specs.declared.fault.OpenFault.{OpenFault}
 use Rattle.desk_commands.specs.declared.left.ToClose.{ToClose}
 use Rattle.desk_commands.specs.declared.left.ToClose.TheVariants as left
 use Rattle.desk_commands.specs.Runs as run
-use Rattle.desk_commands.specs.Closed.{Close, AuditsTo, MigratesTo, RefusesTo, RefusesToMigrateTo, RunsTo}
+use Rattle.desk_commands.specs.Closed.{Close, AuditsTo, IsUnreadTo, MigratesTo, RefusesTo, RefusesToMigrateTo, RunsTo}
 
 pub record Ways : Type 1 where
   -- No file was opened.
@@ -45,6 +45,8 @@ ways_when_closed how first g files = record {
   Runs = λ make Fact. RunsTo how first g files make Fact;
   Audits = AuditsTo how first g files;
   Migrates = MigratesTo how first g files;
-  Refuses = λ make. RefusesTo how first g files make;
-  RefusesToMigrate = RefusesToMigrateTo how first g files;
+  Refuses = λ make fault.
+      RefusesTo how first g files make fault ⊎ IsUnreadTo first g files fault;
+  RefusesToMigrate = λ fault.
+      RefusesToMigrateTo how first g files fault ⊎ IsUnreadTo first g files fault;
 }

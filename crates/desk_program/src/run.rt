@@ -1,9 +1,10 @@
 //! A run on the system's files and ports.
 
-ghost use Rattle.std.specs.Prelude.{◌≡◌, ◌≢◌, ◌^◌, ◌<◌, map, string_bytes, codes, OnSome};
+ghost use Rattle.std.specs.Prelude.{◌≡◌, ◌≢◌, ◌^◌, ◌<◌, ◌||◌, is_some, map, string_bytes, codes, OnSome};
 ghost use Rattle.std.specs.IoError.{error_kind};
 ghost use Rattle.desk_types.specs.Wire.{failures_of};
 ghost use Rattle.line_schema.specs.declared.fault.OpenFault.TheVariants.{Unavailable};
+ghost use Rattle.desk_file.specs.Opened.{has_opened};
 ghost use Rattle.desk_commands.specs.Told.{TellsLine};
 ghost use Rattle.desk_commands.specs.Runs.{refusal_line};
 ghost use Rattle.desk_program.specs.Program.{ClosesAs, HaveRoom, NamesFile, ReadsAsked};
@@ -13,6 +14,7 @@ ghost use Rattle.desk_program.specs.Ways.{ways_when_closed};
 use crate::system::{SystemClients, SystemFiles};
 use crate::whole::whole_run;
 use desk_commands::{Exit, tell_line, unavailable};
+use desk_file::FileOpener;
 use desk_types::Wire;
 use desk_words::words_behind_name;
 use sqlite::{FileFrom, Files, Start};
@@ -31,7 +33,7 @@ pub struct ClosedFiles<D: Disk + Drop> {
 pub fn program<T: Start, R: Read, W: Write, E: Write>(
     rt: &HostRuntime,
     words: &[String],
-    start: T,
+    opener: &mut FileOpener<T>,
     input: &mut Wire<R>,
     output: &mut Wire<W>,
     errors: &mut Wire<E>,
@@ -43,6 +45,8 @@ pub fn program<T: Start, R: Read, W: Write, E: Write>(
         any_bytes any_failure any_clients
         R.remaining W.contents E.contents (map string_bytes words.now)
         input.old input.new output.old output.new errors.old errors.new result.0 }
+    // Each file that was opened was closed, and is returned.
+    ensures told { has_opened opener.new ≡ (is_some (files_in result.1) || has_opened opener.old) }
     // No file is opened that the command line doesn't name.
     ensures opened { OnSome (files_in result.1) (NamesFile (map string_bytes words.now)) }
     // No more of the input is read than the command needs, and a feed that ends well reads it all.
@@ -52,7 +56,7 @@ pub fn program<T: Start, R: Read, W: Write, E: Write>(
     let (status, files) = whole_run(
         rt,
         words,
-        start,
+        opener,
         &SystemFiles::new(rt),
         &mut SystemClients::new(rt),
         input,

@@ -1,9 +1,10 @@
 //! A whole run of the program, over any files, folder, clients, input and output.
 
-ghost use Rattle.std.specs.Prelude.{◌≡◌, ◌⊎◌, true, is_some, map, string_bytes, IfOk, IfErr, OnSome};
+ghost use Rattle.std.specs.Prelude.{◌≡◌, ◌⊎◌, ◌||◌, true, is_some, map, string_bytes, IfOk, IfErr, OnSome};
+ghost use Rattle.desk_file.specs.Opened.{has_opened};
 ghost use Rattle.desk_commands.specs.Clients.{ServesAt};
 ghost use Rattle.desk_commands.specs.Wires.{HaveFewCounts};
-ghost use Rattle.desk_commands.specs.Closed.{ClosesLeft, failed, whole};
+ghost use Rattle.desk_commands.specs.Closed.{ClosesLeft, failed, is_left_open, whole};
 ghost use Rattle.desk_program.specs.Program.{AsksForNoServing, ClosesAs, HaveRoom, LeavesAs, Names, NamesFile, ReadsAsked};
 ghost use Rattle.desk_program.specs.Ways.{ways_when_closed, ways_when_open};
 
@@ -12,7 +13,7 @@ use desk_commands::{
     migrate_file, report_in_file, send_text, serve_in_file, tell, unavailable,
 };
 use desk_feed::Folder;
-use desk_file::{RefusedFile, close_desk, close_file};
+use desk_file::{FileOpener, RefusedFile, close_desk, close_file};
 use desk_types::Wire;
 use desk_words::{CommandLine, read_words};
 use sqlite::{FileFrom, Files, Start};
@@ -27,7 +28,7 @@ use std::io::{Read, Write};
 pub fn whole_run<T: Start, F: Folder, C: Clients, R: Read, W: Write, E: Write>(
     rt: &HostRuntime,
     words: &[String],
-    start: T,
+    opener: &mut FileOpener<T>,
     folder: &F,
     clients: &mut C,
     input: &mut Wire<R>,
@@ -39,6 +40,8 @@ pub fn whole_run<T: Start, F: Folder, C: Clients, R: Read, W: Write, E: Write>(
         (F.holds folder.now) (F.may_fail folder.now) (ServesAt C.Saw clients.old clients.new)
         R.remaining W.contents E.contents (map string_bytes words.now)
         input.old input.new output.old output.new errors.old errors.new result.0 }
+    // Each file that was opened was closed, and is returned.
+    ensures told { has_opened opener.new ≡ (is_some result.1 || has_opened opener.old) }
     // No file is opened that the command line doesn't name.
     ensures opened { OnSome result.1 (NamesFile (map string_bytes words.now)) }
     ensures reads { ReadsAsked R.remaining (map string_bytes words.now)
@@ -47,7 +50,7 @@ pub fn whole_run<T: Start, F: Folder, C: Clients, R: Read, W: Write, E: Write>(
     ensures unserved { (result.0 ≡ 2) ⊎ AsksForNoServing (map string_bytes words.now)
         → clients.new ≡ clients.old }
 {
-    let (status, left) = open_run(rt, words, start, folder, clients, input, output, errors);
+    let (status, left) = open_run(rt, words, opener, folder, clients, input, output, errors);
     match close_run(left) {
         Ok(files) => (status, files),
         Err(files) if status == Exit::NoDesk as u8 => (status, files),
@@ -60,6 +63,8 @@ fn close_run<T: Start>(
 ) -> Result<Option<Files<FileFrom<T>>>, Option<Files<FileFrom<T>>>>
     ensures ok { IfOk result (ClosesLeft whole left) }
     ensures err { IfErr result (λ files. ClosesLeft failed left files × (is_some files ≡ true)) }
+    ensures all { IfOk result (λ files. is_left_open left ≡ is_some files) }
+    ensures some { IfErr result (λ files. is_left_open left ≡ is_some files) }
 {
     match left {
         ToClose::Nothing => Ok(None),
@@ -71,8 +76,14 @@ fn close_run<T: Start>(
             Ok(files) => Ok(Some(files)),
             Err((_, files)) => Err(Some(files)),
         },
-        ToClose::Refused(RefusedFile { fault: _, file }) => match file {
-            None => Ok(None),
+        ToClose::Refused(
+            RefusedFile {
+                fault: _,
+                file,
+                unread,
+            },
+        ) => match file {
+            None => Ok(unread),
             Some(file) => match close_file(file) {
                 Ok(files) => Ok(Some(files)),
                 Err((_, files)) => Err(Some(files)),
@@ -85,7 +96,7 @@ fn close_run<T: Start>(
 fn open_run<T: Start, F: Folder, C: Clients, R: Read, W: Write, E: Write>(
     rt: &HostRuntime,
     words: &[String],
-    start: T,
+    opener: &mut FileOpener<T>,
     folder: &F,
     clients: &mut C,
     input: &mut Wire<R>,
@@ -98,6 +109,7 @@ fn open_run<T: Start, F: Folder, C: Clients, R: Read, W: Write, E: Write>(
         R.remaining W.contents E.contents (map string_bytes words.now)
         input.old input.new output.old output.new errors.old errors.new result.0 }
     ensures named { Names (map string_bytes words.now) result.1 }
+    ensures told { has_opened opener.new ≡ (is_left_open result.1 || has_opened opener.old) }
     ensures reads { ReadsAsked R.remaining (map string_bytes words.now)
         input.old input.new result.0 }
     ensures unserved { (result.0 ≡ 2) ⊎ (result.0 ≡ 3)
@@ -105,7 +117,7 @@ fn open_run<T: Start, F: Folder, C: Clients, R: Read, W: Write, E: Write>(
 {
     match read_words(rt.alloc(), words) {
         Ok(CommandLine::Feed { file, greatest }) => match file {
-            Some(file) => feed_in_file(rt, file.as_str(), start, greatest, input, output, errors),
+            Some(file) => feed_in_file(rt, file.as_str(), opener, greatest, input, output, errors),
             None => (
                 feed_in_memory(rt.alloc(), greatest, input, output, errors),
                 ToClose::Nothing,
@@ -121,7 +133,7 @@ fn open_run<T: Start, F: Folder, C: Clients, R: Read, W: Write, E: Write>(
         ) => serve_in_file(
             rt,
             file.as_str(),
-            start,
+            opener,
             clients,
             port,
             connections,
@@ -132,17 +144,23 @@ fn open_run<T: Start, F: Folder, C: Clients, R: Read, W: Write, E: Write>(
         Ok(CommandLine::Report { file, target }) => report_in_file(
             rt,
             file.as_str(),
-            start,
+            opener,
             target.as_str(),
             output,
             errors,
         ),
-        Ok(CommandLine::Audit { file }) => audit_file(rt, file.as_str(), start, output, errors),
-        Ok(CommandLine::Migrate { file }) => migrate_file(rt, file.as_str(), start, output, errors),
+        Ok(CommandLine::Audit { file }) => audit_file(rt, file.as_str(), opener, output, errors),
+        Ok(CommandLine::Migrate { file }) => migrate_file(
+            rt,
+            file.as_str(),
+            opener,
+            output,
+            errors,
+        ),
         Ok(CommandLine::Import { file, import, from }) => import_in_file(
             rt,
             file.as_str(),
-            start,
+            opener,
             &import,
             folder,
             from.as_str(),

@@ -7,7 +7,7 @@ ghost use Rattle.headline.specs.Whole.{GoesOn};
 
 use desk_commands::Clients;
 use desk_feed::Folder;
-use desk_file::next_run_goes_on;
+use desk_file::{FileOpener, next_run_goes_on};
 use desk_program::whole_run;
 use desk_types::Wire;
 use sqlite::{FileFrom, Files, Start};
@@ -19,7 +19,7 @@ use std::io::{Read, Write};
 pub fn whole_run_goes_on<T: Start, F: Folder, C: Clients, R: Read, W: Write, E: Write>(
     rt: &HostRuntime,
     words: &[String],
-    start: T,
+    opener: &mut FileOpener<T>,
     folder: &F,
     clients: &mut C,
     input: &mut Wire<R>,
@@ -33,5 +33,5 @@ pub fn whole_run_goes_on<T: Start, F: Folder, C: Clients, R: Read, W: Write, E: 
         errors.old errors.new result.0 T.Start ⟦<FileFrom<T> as Disk>⟧) }
 {
     next_run_goes_on();
-    whole_run(rt, words, start, folder, clients, input, output, errors)
+    whole_run(rt, words, opener, folder, clients, input, output, errors)
 }

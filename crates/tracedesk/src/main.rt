@@ -1,6 +1,7 @@
 //! The program of the trace desk, which is `program` of `desk_program`.
 #![tactic(auto)]
 
+use desk_file::FileOpener;
 use desk_program::{program, wordless, words};
 use desk_types::Wire;
 use sqlite::Unknown;
@@ -13,7 +14,7 @@ fn main(rt: HostRuntime) -> ExitCode {
             let (status, _files) = program(
                 &rt,
                 words.as_slice(),
-                Unknown,
+                &mut FileOpener::new(Unknown),
                 &mut Wire::new(rt.stdin()),
                 &mut Wire::new(rt.stdout()),
                 &mut errors,

@@ -22,7 +22,7 @@ fn main(rt: HostRuntime) -> ExitCode {
     let mut output = Wire::new(rt.stdout());
     let (status, _files) = program(
         &rt,
-        &SystemFiles::new(&rt),
+        &mut SystemFiles::new(&rt),
         words.as_slice(),
         &mut output,
         &mut errors,

@@ -1,6 +1,7 @@
 //! `program` on the first worked cases, over readers and writers in memory.
 
 use super::messages::{FIRST_RUN, lines_of};
+use desk_file::FileOpener;
 use desk_program::program;
 use desk_types::Wire;
 use sqlite::Unknown;
@@ -51,7 +52,7 @@ fn run(rt: &HostRuntime, line: &str, input: &[u8]) -> Result<(u8, Vec<u8>, Vec<u
     let (status, _files) = program(
         rt,
         words.as_slice(),
-        Unknown,
+        &mut FileOpener::new(Unknown),
         &mut Wire::new(input),
         &mut output,
         &mut errors,

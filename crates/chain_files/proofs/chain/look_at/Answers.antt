@@ -1,19 +1,19 @@
-use Rattle.std.proofs.Common.{None, Some, inl, refl, subst}
+use Rattle.std.proofs.Common.{Some, inl, inr, refl, subst}
 use Rattle.std.specs.Prelude.{IfOk}
 use Rattle.sqlite_wal.specs.Reads.{AreClean}
 use Rattle.sqlite_wal.specs.Recovery.{Image}
 use Rattle.feeder_state.specs.contracts.desk.StateDeskDesk.TheImpl.{ghosts as state}
-use Rattle.chain_files.specs.Files.{files_in}
 use Rattle.chain_stores.specs.Look.{Says}
 use Rattle.chain_files.specs.Marks.{WantsNext}
 use Rattle.chain_files.specs.Opened.{OpensDesk}
-use Rattle.desk_file.specs.Refused.{RefusesRun}
 use Rattle.chain_files.proofs.KeptFiles.{closed-whole, left-kept, one-more, read-kept, unread}
+use Rattle.chain_files.proofs.Told.{named, unnamed}
 use Rattle.chain_files.proofs.chain.look_at.Goals as goal
 
 pub returns-in-Ok-looked-clause-takes : goal.returns-in-Ok-looked-clause-takes
 returns-in-Ok-looked-clause-takes g c =
-    let opens = subst (λ (image : Image). OpensDesk image c.in-Ok.store) c.in_ok-files.ensures.image c.in-Ok.ensures.opens in (
+    let held = c.in_ok-files.ensures.fresh.held in
+    let opens = subst (λ (image : Image). OpensDesk image c.in-Ok.store) held c.in-Ok.ensures.opens in (
       c.wanted_after-wanted.result.1,
       c.add_closed-in-Ok.ensures,
       λ clean ours.
@@ -29,13 +29,20 @@ returns-in-Ok-looked-clause-takes g c =
 
 pub returns-in-Err-clause-refused : goal.returns-in-Err-clause-refused
 returns-in-Err-clause-refused g c =
-    c.shut.ensures.refused (g.O.Opener.image c.args.opener.now c.args.path.now c.args.place)
-    (subst (λ (i : Image). RefusesRun i None c.in-Err.refusal) c.in_ok-files.ensures.image c.in-Err.ensures.refused)
+    c.shut.ensures.refused (g.O.Opener.image c.args.opener.now c.args.path.now c.args.place) c.in_ok-files.files
+    c.in_ok-files.ensures.fresh c.in-Err.ensures.refused
 
 pub returns-in-Err-clause-kept : goal.returns-in-Err-clause-kept
 returns-in-Err-clause-kept g c =
-    c.shut.ensures.kept (g.O.Opener.image c.args.opener.now c.args.path.now c.args.place)
-    (subst (λ (i : Image). RefusesRun i None c.in-Err.refusal) c.in_ok-files.ensures.image c.in-Err.ensures.refused)
+    inl (
+      named _ c.args.path.now c.open.result _ c.in_ok-files.was c.open.ensures.told,
+      c.shut.ensures.kept (g.O.Opener.image c.args.opener.now c.args.path.now c.args.place) c.in_ok-files.files
+          c.in_ok-files.ensures.fresh c.in-Err.ensures.refused,
+    )
+
+pub returns-in_err-files-clause-kept : goal.returns-in_err-files-clause-kept
+returns-in_err-files-clause-kept g c =
+    inr (unnamed _ c.args.path.now c.open.result _ c.in_err-files.was c.open.ensures.told, refl)
 
 pub returns-in-Err-close_file-clause-refused : goal.returns-in-Err-close_file-clause-refused
 returns-in-Err-close_file-clause-refused g c =
@@ -46,8 +53,9 @@ returns-in-Err-close_file-clause-kept g c =
     let image = g.O.Opener.image c.args.opener.now c.args.path.now c.args.place in
     let files = c.in-Err-close_file.files in
     let opens : OpensDesk image c.in-Ok.store =
-    subst (λ (i : Image). OpensDesk i c.in-Ok.store) c.in_ok-files.ensures.image c.in-Ok.ensures.opens in
-    one-more g.O.File.Disk image (files_in c.args.closed.now) (files_in c.add_closed.new.closed) files
+    subst (λ (i : Image). OpensDesk i c.in-Ok.store) c.in_ok-files.ensures.fresh.held c.in-Ok.ensures.opens in
+    let told = named _ c.args.path.now c.open.result _ c.in_ok-files.was c.open.ensures.told in
+    one-more g.O.File.Disk image c.args.path.now files told
     c.add_closed.ensures
     (left-kept image c.in-Ok.store c.look-conn.result.0 files files opens c.look-conn.ensures.reads
     (unread g.O.File.Disk files) c.in-Err-close_file.ensures.left)
@@ -61,8 +69,9 @@ returns-in_default-clause-kept g c =
     let image = g.O.Opener.image c.args.opener.now c.args.path.now c.args.place in
     let files = c.wanted_after-wanted.result.1 in
     let opens : OpensDesk image c.in-Ok.store =
-    subst (λ (i : Image). OpensDesk i c.in-Ok.store) c.in_ok-files.ensures.image c.in-Ok.ensures.opens in
-    one-more g.O.File.Disk image (files_in c.args.closed.now) (files_in c.add_closed-in-Ok.new.closed) files
+    subst (λ (i : Image). OpensDesk i c.in-Ok.store) c.in_ok-files.ensures.fresh.held c.in-Ok.ensures.opens in
+    let told = named _ c.args.path.now c.open.result _ c.in_ok-files.was c.open.ensures.told in
+    one-more g.O.File.Disk image c.args.path.now files told
     c.add_closed-in-Ok.ensures
     (read-kept image c.in-Ok.store c.look-conn.result.0 c.in-Ok-close_file.files files opens c.look-conn.ensures.reads
     c.wanted_after-wanted.ensures.read (c.in-Ok-close_file.ensures.whole, c.in-Ok-close_file.ensures.copied))
@@ -72,8 +81,9 @@ returns-in-Ok-looked-clause-kept g c =
     let image = g.O.Opener.image c.args.opener.now c.args.path.now c.args.place in
     let files = c.wanted_after-wanted.result.1 in
     let opens : OpensDesk image c.in-Ok.store =
-    subst (λ (i : Image). OpensDesk i c.in-Ok.store) c.in_ok-files.ensures.image c.in-Ok.ensures.opens in
-    one-more g.O.File.Disk image (files_in c.args.closed.now) (files_in c.add_closed-in-Ok.new.closed) files
+    subst (λ (i : Image). OpensDesk i c.in-Ok.store) c.in_ok-files.ensures.fresh.held c.in-Ok.ensures.opens in
+    let told = named _ c.args.path.now c.open.result _ c.in_ok-files.was c.open.ensures.told in
+    one-more g.O.File.Disk image c.args.path.now files told
     c.add_closed-in-Ok.ensures
     (read-kept image c.in-Ok.store c.look-conn.result.0 c.in-Ok-close_file.files files opens c.look-conn.ensures.reads
     c.wanted_after-wanted.ensures.read (c.in-Ok-close_file.ensures.whole, c.in-Ok-close_file.ensures.copied))
@@ -87,8 +97,9 @@ returns-in-Err-looked-clause-kept g c =
     let image = g.O.Opener.image c.args.opener.now c.args.path.now c.args.place in
     let files = c.wanted_after-wanted.result.1 in
     let opens : OpensDesk image c.in-Ok.store =
-    subst (λ (i : Image). OpensDesk i c.in-Ok.store) c.in_ok-files.ensures.image c.in-Ok.ensures.opens in
-    one-more g.O.File.Disk image (files_in c.args.closed.now) (files_in c.add_closed-in-Ok.new.closed) files
+    subst (λ (i : Image). OpensDesk i c.in-Ok.store) c.in_ok-files.ensures.fresh.held c.in-Ok.ensures.opens in
+    let told = named _ c.args.path.now c.open.result _ c.in_ok-files.was c.open.ensures.told in
+    one-more g.O.File.Disk image c.args.path.now files told
     c.add_closed-in-Ok.ensures
     (read-kept image c.in-Ok.store c.look-conn.result.0 c.in-Ok-close_file.files files opens c.look-conn.ensures.reads
     c.wanted_after-wanted.ensures.read (c.in-Ok-close_file.ensures.whole, c.in-Ok-close_file.ensures.copied))

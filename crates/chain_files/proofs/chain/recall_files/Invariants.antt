@@ -8,6 +8,8 @@ abbrev pub invariant-loop-place : goal.invariant-loop-place
 invariant-loop-place g l = record {
   few : failures_of l.errors < 2 ^ 63;
   count : length (files_in l.closed) ≡ l.place;
-  kept : AreKept g.O.File.Disk (placed (g.O.Opener.image l.opener) (map string_bytes l.paths)) (files_in l.closed);
-  so_far : Reaches g.O.File.Disk (placed (g.O.Opener.image l.opener) (map string_bytes l.paths)) l.question l.links (map string_bytes l.paths) (files_in l.closed) l.place l.older l.answer;
+  same : g.O.Opener.image l.opener ≡ g.O.Opener.image l.fn.opener;
+  kept : AreKept g.O.File.Disk (g.O.Opener.image l.fn.opener) (map string_bytes l.paths)
+      (g.O.Opener.opened l.fn.opener) (g.O.Opener.opened l.opener) (files_in l.closed);
+  so_far : Reaches g.O.File.Disk (placed (g.O.Opener.image l.fn.opener) (map string_bytes l.paths)) l.question l.links (map string_bytes l.paths) (files_in l.closed) l.place l.older l.answer;
 }

@@ -38,19 +38,19 @@ returns-in-Ok-open-clause-opens g c = λ clean alone.
           ((file_state conn).committed, held, (opened.1 opened.0.is_open).1, settled_at conn.store g.met.D.Disk.seen_may_stay trees opened.0.is_open was),
     )
 
-pub returns-in-Err-clause-refused : goal.returns-in-Err-clause-refused
-returns-in-Err-clause-refused g c =
+pub returns-in-Err-open-clause-refused : goal.returns-in-Err-open-clause-refused
+returns-in-Err-open-clause-refused g c =
     let image = image_of g.D.Disk c.args.files in
     let first = c.in-Ok in
     let opened = first.ensures.opened in
     let found = first.ensures.found in
-    let last = c.in-Err.conn in
-    let fault = c.in-Err.fault in
-    let told = c.in-Err.ensures in
+    let last = c.in-Err-open.conn in
+    let fault = c.in-Err-open.fault in
+    let told = c.in-Err-open.ensures in
     let kept = told.refused.kept in
     let survives = told.refused.survives in
     let stands = fault_in image first.conn last (λ _ _. ⊥) opened found kept survives Two fault
     told.fault.holds told.fault.told in
-    refuses {X = ⊤} image None (Err (record { fault = fault; file = Some last })) told.fault.never
+    refuses {X = ⊤} image None (Err (record { fault = fault; file = Some last; unread = None })) told.fault.never
     (refused image first.conn last (λ _ _. ⊥) opened found kept survives (IsFaultIn image Two) ⊥ fault stands
     (λ none. absurd none))

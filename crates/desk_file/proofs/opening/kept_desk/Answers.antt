@@ -1,7 +1,7 @@
 use Rattle.desk_types.proofs.Common.{◌∙◌, arith, Bool, None, subst}
 use Rattle.line_tables.proofs.Common.{file_state, HasCleanDisk, over_files, Two}
-use Rattle.desk_file.proofs.{FirstLists.opened_begins, RefusedFiles.fault_in, RefusedFiles.refused}
-use Rattle.desk_file.specs.Refused.{IsFaultIn}
+use Rattle.desk_file.proofs.{FirstLists.opened_begins, RefusedFiles.fault_in, RefusedFiles.passed, RefusedFiles.refused, RefusedFiles.unfound}
+use Rattle.desk_file.specs.Refused.{IsFaultIn, IsRefused}
 use Rattle.line_schema.specs.Stands.{Stands}
 use Rattle.sqlite_wal.specs.Files.{image_at}
 use Rattle.desk_file.proofs.opening.kept_desk.Goals as goal
@@ -28,3 +28,10 @@ returns-in-Err-clause-refused g c =
     let told = c.in-Err.ensures in
     let stands = fault_in image first.conn c.in-Err.conn (λ _ _. ⊥) first.ensures.opened first.ensures.found told.refused.kept told.refused.survives Two c.in-Err.fault told.fault.holds told.fault.told in
     refused image first.conn c.in-Err.conn (λ _ _. ⊥) first.ensures.opened first.ensures.found told.refused.kept told.refused.survives (IsFaultIn image Two) ⊥ c.in-Err.fault stands (λ none. absurd none)
+
+pub returns-in_err-conn-clause-refused : goal.returns-in_err-conn-clause-refused
+returns-in_err-conn-clause-refused g c =
+    let image = image_at g.T.Start in
+    let r = c.in_err-conn.field-0.0 in
+    passed (IsRefused image (IsFaultIn image Two) (λ _ _. ⊥) ⊥) r c.from_residual.result c.from_residual.ensures.1
+    (unfound image (IsFaultIn image Two) (λ _ _. ⊥) ⊥ r c.in_err-conn.ensures.err)

@@ -1,7 +1,7 @@
 use Rattle.desk_types.proofs.Common.{[], ◌≡◌, arith, Bool, None, Some, subst}
 use Rattle.line_tables.proofs.Common.{file_state, HasCleanDisk, over_files}
-use Rattle.desk_file.{proofs.FirstLists.made_begins, proofs.FirstLists.no_table, proofs.RefusedFiles.refused}
-use Rattle.desk_file.{proofs.RefusedFiles.unmade, specs.Refused.IsFaultFor, specs.Refused.LeavesMade}
+use Rattle.desk_file.{proofs.FirstLists.made_begins, proofs.FirstLists.no_table, proofs.RefusedFiles.refused, proofs.RefusedFiles.passed, proofs.RefusedFiles.unfound}
+use Rattle.desk_file.{proofs.RefusedFiles.unmade, specs.Refused.IsFaultFor, specs.Refused.IsRefused, specs.Refused.LeavesMade}
 use Rattle.line_schema.specs.Stands.{Stands}
 use Rattle.sqlite_wal.specs.Files.{image_at}
 use Rattle.desk_file.proofs.opening.new_desk.Goals as goal
@@ -32,3 +32,11 @@ returns-in-Err-clause-refused g c =
     let told = c.in-Err.ensures in
     let stands = unmade image first.conn c.in-Err.conn (LeavesMade made) first.ensures.opened first.ensures.found told.unmade.kept told.unmade.survives c.args.greatest c.in-Err.fault told.unmade.reason in
     refused image first.conn c.in-Err.conn (LeavesMade made) first.ensures.opened first.ensures.found told.unmade.kept told.unmade.survives (IsFaultFor image made) (made ≡ None) c.in-Err.fault stands (λ none. absurd (cc))
+
+pub returns-in_err-conn-clause-refused : goal.returns-in_err-conn-clause-refused
+returns-in_err-conn-clause-refused g c =
+    let image = image_at g.T.Start in
+    let made = Some c.args.greatest in
+    let r = c.in_err-conn.field-0.0 in
+    passed (IsRefused image (IsFaultFor image made) (LeavesMade made) (made ≡ None)) r c.from_residual.result c.from_residual.ensures.1
+    (unfound image (IsFaultFor image made) (LeavesMade made) (made ≡ None) r c.in_err-conn.ensures.err)
