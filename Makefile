@@ -17,9 +17,9 @@ build:         ## proves and builds the program, and prints its path | 35 min, t
 	@dev/build
 day:           ## feeds a made-up shift to a desk, and prints what is asked of it: docs/day.md | 10 s
 	@examples/day
-plant-recall:  ## three lines in one PostgreSQL, and a recall over them, compared with docs/plant.md; the same recalls three ways, what a load can meet, and a company of three plants | 6 min | postgresql postgresql-15-plproxy python3-psycopg python3-pytest
+plant-recall:  ## three lines in one PostgreSQL, and a recall over them, compared with docs/plant.md; the same recalls three ways, and what a load can meet | 6 min | postgresql python3-psycopg python3-pytest
 	$(say)
-	@/usr/bin/python3 -m pytest -q ops/tests/test_plant_*.py ops/tests/test_three_ways.py ops/tests/test_company.py
+	@/usr/bin/python3 -m pytest -q ops/tests/test_plant_*.py ops/tests/test_three_ways.py
 
 #: test
 test:          ## the gate: looks at the sources, proves everything from nothing, tries wrong bodies, runs the tests and the worked cases, fails calls; a table says what each step cost | 1 h | rt, and the packages of dev/packages.txt, or what wants them is skipped
@@ -27,16 +27,15 @@ test:          ## the gate: looks at the sources, proves everything from nothing
 	@dev/test
 lint:          ## format, types, unused names, scripts and lengths of files, in all that isn't Rattle | 1 min | black mypy pyflakes3 eslint shellcheck
 	@dev/lint
-ops-test:      ## all tests of the tools in ops/, also those that take minutes or want root, but for make plant-test and truth-test | 30 min | postgresql postgresql-15-plproxy python3-psycopg python3-pytest nginx openssl
+ops-test:      ## all tests of the tools in ops/, also those that take minutes or want root, but for make plant-test and truth-test | 30 min | postgresql python3-psycopg python3-pytest nginx openssl
 	$(say)
 	@/usr/bin/python3 -m pytest -q ops/tests --ignore-glob='*installed*' --ignore=ops/tests/test_truth.py
 truth-test:    ## recalls of 10,000 simulated shifts, compared with what happened at the machines | half an hour or more | python3-pytest python3-pytest-xdist
 	$(say)
 	@/usr/bin/python3 -m pytest -q -n 4 ops/tests/test_truth.py
-evidence-test: ## kills the tools that keep evidence at each call, and in 3,000 random sequences | hours
+evidence-test: ## 3,000 random histories of a line's folder, with kills at each call and planted faults | 1 h | python3-hypothesis
 	$(say)
-	@ops/tests/evidence-faults --points 0 --moments 3
-	@ops/tests/evidence-faults --points 3000 random
+	@/usr/bin/python3 -m pytest -q ops/tests/test_histories.py
 wrong-bodies:  ## tries all wrong bodies, those outside the tests too, and the wrong programs: each has to be refused | 1 h, and up to 40 min for each of the programs | rt
 	$(say)
 	@dev/wrong-bodies

@@ -1,11 +1,11 @@
 # shellcheck shell=bash disable=SC2016,SC2034  # scripts that source this use its names
 # For scripts of cases that a step of the kind `tool` runs: sourced by them, in the folder where the case runs. The desk in `desk` is
-# served at PORT, and `here` are the words by which ops/tracedesk-rollover and ops/tracedesk-backup know that service.
+# served at PORT, and `here` are the words by which tracedesk-ops rollover knows that service.
 set -u
 export PYTHONDONTWRITEBYTECODE=1
 ops="$(cd "$(dirname "$0")/../../ops" && pwd)"
 port="${PORT:?dev/cases gives one}"
-here=(--db desk --port "$port" --drained drained --stop 'kill "$(cat pid)" 2> /dev/null || true' --start 'sh ./start')
+here=(--port "$port" --drained drained --stop 'kill "$(cat pid)" 2> /dev/null || true' --start 'sh ./start')
 cat > start <<END
 "$PROGRAM" serve --db desk --port $port --connections 10000 > served.txt 2>&1 < /dev/null & echo \$! > pid
 END
@@ -14,11 +14,8 @@ trap stop EXIT
 # told COMMAND..   what a command says and its status; for what is another in each run, as seconds, stands `..`
 told() {
   { "$@" 2>&1; echo "status $?"; } |
-    sed -E "s,$PWD/,,g; s/[0-9a-f]{64}/../g; s/[0-9a-f]{24}([.]{2})?/../g; s/[0-9.]+ seconds/.. seconds/; s/20[0-9-]{8}T[0-9]{6}Z/../g; s/http:[^ ,]*/../g"
+    sed -E "s,$PWD/,,g; s,$PWD,.,g; s/[0-9a-f]{64}/../g; s/[0-9a-f]{24}([.]{2})?/../g; s/[0-9.]+ seconds/.. seconds/; s/20[0-9-]{8}T[0-9]{6}Z/../g; s/http:[^ ,]*/../g"
 }
-
-# without_digits   archives' names without the digits of their checksums
-without_digits() { sed -E 's/-[0-9a-f]{24}/-../g'; }
 
 # has_ended        whether the desk has ended; it has too where nobody has asked for its status yet
 has_ended() { ! grep -qs '^State:.[^ZX]' "/proc/$(cat pid)/status"; }

@@ -101,7 +101,7 @@ def own(number: int) -> str:
 
 
 def begun(uid: str, minute: int, word: str, body: Any, source: str = "begin") -> str:
-    """A message of ops/tracedesk-begin."""
+    """A message of dev/begin."""
     envelope = {
         "MessageName": "TraceDesk." + word,
         "UniqueID": uid,

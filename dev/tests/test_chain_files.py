@@ -1,7 +1,7 @@
 """tracedesk-chain is asked about chains of desk files with gaps: each answer is one that was worked
 out by hand.
 
-`tracedesk feed` makes three files, two of them begun by tracedesk-begin from the one before, and a
+`tracedesk feed` makes three files, two of them begun from the one before, and a
 chain of twenty. Then the program is asked about them in order, with one missing, one twice, two
 turned round, and older copies. No file is changed.
 """
@@ -9,11 +9,11 @@ import hashlib
 import pathlib
 import shutil
 import subprocess
-import sys
+
 from typing import NamedTuple
 
 import pytest
-from tracedesk_dev import ROOT
+from tracedesk_dev import begun
 from tracedesk_ops import stored
 
 pytestmark = pytest.mark.xdist_group("chain_files")
@@ -129,11 +129,9 @@ class Files:
         """Begins a desk from an old one. Its UniqueIDs have this mark in place of the old file's
         checksum.
         """
-        tool = [sys.executable, str(ROOT / "ops/tracedesk-begin"), str(self.folder / old)]
-        words = [*tool, "--program", str(self.program)]
-        begun = subprocess.run(words, capture_output=True, text=True, check=True).stdout
-        own = self.checksum(old)[:24]
-        self.feed(new, begun.replace(f"begin-{own}-", f"begin-{mark or own}-"))
+        lines = begun.messages_of(self.folder / old)
+        own, said = self.checksum(old)[:24], b"\n".join([*lines, b""]).decode()
+        self.feed(new, said.replace(f"begin-{own}-", f"begin-{mark or own}-"))
 
     def carry_on(self, old: str, new: str, lines: list[str], mark: str = "") -> None:
         self.begin(old, new, mark)

@@ -1,6 +1,6 @@
 -- Takes out the pieces of archives whose last command is from before a day; their rows of file stay, as dropped, and each recall says so.
 -- Or takes out one file, that was loaded by mistake or put aside by a restore: it is missing until the same bytes are loaded by another
--- name, or tracedesk-plant-load loads a catalogue of its line without it. What was missing by that name is missing no more.
+-- name, or tracedesk-plant-load loads a folder of its line without it. What was missing by that name is missing no more.
 -- If the name of a line was wrong, no answer needs it: DELETE FROM plant.line WHERE name = ..
 -- usage: psql -v before=2027-01-01 -f drop.sql      or -v line=L1 -v name=L1-20260302T0600Z-20260302T0712Z-12
 \set ON_ERROR_STOP on

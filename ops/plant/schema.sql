@@ -1,5 +1,5 @@
 -- The tables of a plant: what the files of its lines say for good, each row with the file that said it.
--- A file is an archive, which never changes, or the running desk of a line as of its last copy.
+-- A file is an archive, which never changes, or the running desk of a line as it was sealed last.
 SET client_min_messages = warning;  -- not what is there already
 CREATE SCHEMA IF NOT EXISTS plant;
 SET search_path TO plant;
@@ -9,22 +9,20 @@ CREATE SEQUENCE IF NOT EXISTS file_id AS integer;
 CREATE TABLE IF NOT EXISTS file (
     id           integer PRIMARY KEY,
     line         text NOT NULL,
-    name         text NOT NULL,                 -- that of the catalogue, or 'running desk'
+    name         text NOT NULL,                 -- that of the sealed file, or 'running desk'
     sha256       text NOT NULL,
     first_minute bigint,                        -- none of a desk without a command
     last_minute  bigint,
     commands     bigint NOT NULL,
     last_uid     text NOT NULL,                 -- of the last command, by which a later copy of the same desk is known
     pieces       bigint NOT NULL,
-    taken        text NOT NULL,                 -- when the copy of a running desk was made; empty of an archive
+    taken        text NOT NULL,                 -- when a running desk was sealed; empty of an archive
     dropped      boolean NOT NULL DEFAULT false, -- its pieces were taken out, by drop.sql
-    epochs       text[] NOT NULL DEFAULT '{}',  -- of a running desk, one for each restore, the newest last
     said         bigint NOT NULL DEFAULT 0,     -- commands in the table command
-    desk         text NOT NULL DEFAULT '',      -- the desk's name; empty where it had none yet
     mark         text NOT NULL DEFAULT '',      -- the first digits of the checksum of the archive from which it was begun
     UNIQUE (line, name)
 );
-ALTER TABLE file ADD COLUMN IF NOT EXISTS mark text NOT NULL DEFAULT '';
+ALTER TABLE file ADD COLUMN IF NOT EXISTS mark text NOT NULL DEFAULT '', DROP COLUMN IF EXISTS epochs, DROP COLUMN IF EXISTS desk;  -- of 1.0.0
 CREATE INDEX IF NOT EXISTS file_digits ON file (left(sha256, 24));
 -- each accepted command but a ClockSet, by the MD5 of all that its sender said: two files of a line that have one which places pieces would count them twice
 CREATE TABLE IF NOT EXISTS command (
@@ -105,7 +103,7 @@ CREATE TABLE IF NOT EXISTS looked (
     line text PRIMARY KEY,
     at   text NOT NULL                          -- a checksum of all of them
 );
--- a row for each change of the tables by a tool: a company knows by it whether a plant went back to an older state
+-- a row for each change of the tables by a tool: who asks knows by it whether the database went back to an older state
 CREATE TABLE IF NOT EXISTS state (
     token  uuid PRIMARY KEY DEFAULT gen_random_uuid(),
     number bigint GENERATED ALWAYS AS IDENTITY
@@ -205,33 +203,5 @@ CREATE OR REPLACE FUNCTION faults(kind text, wanted text) RETURNS SETOF text LAN
             OR kind = 'lot' AND '' = ANY (other_lots) AND why LIKE 'the machine names another reel%'
             OR parts = '{}' AND EXISTS (SELECT FROM refused WHERE refused.line = doubt.line AND refused.machine = doubt.machine AND (kind = 'lot' OR refused.reel = wanted)) END
 $$;
-
--- What a company asks of a plant, in one snapshot: each piece, and what keeps the answer from being exact. The last row has neither: it
--- says that the plant answered, whether it knows the name, when the running desk was copied whose copy is the oldest, which state the
--- tables have, and whether they had one of the states that the company saw.
-CREATE TABLE IF NOT EXISTS own_name (name text PRIMARY KEY);  -- of the plant, by which a company knows it: one row
-CREATE OR REPLACE FUNCTION answer(kind text, wanted text, schema_wanted integer, seen uuid[])
-RETURNS TABLE (plant text, fault text, known boolean, copied timestamptz, state uuid, went_on boolean, board text, designator text, part text, lot text, reel text, machine text,
-               slot text, overdue text, minute bigint, line text, file text, as_of bigint)
-LANGUAGE plpgsql STABLE SECURITY DEFINER SET search_path = plant, pg_temp AS $$
-#variable_conflict use_column
-DECLARE
-    own text := (SELECT CASE count(*) WHEN 1 THEN max(name) END FROM own_name);
-BEGIN
-    IF own IS NULL THEN
-        RAISE EXCEPTION 'the plant has no name: INSERT INTO plant.own_name VALUES (..)';
-    ELSIF schema_wanted <> 1 THEN
-        RAISE EXCEPTION 'the plant % has the schema 1, and % is asked for: run the same schema.sql and company.sql everywhere', own, schema_wanted;
-    END IF;
-    plant := own;
-    FOR board, designator, part, lot, reel, machine, slot, overdue, minute, line, file, as_of IN
-        SELECT p.board, p.designator, p.part, p.lot, p.reel, p.machine, p.slot, p.overdue, p.minute, p.line, p.file, p.as_of FROM pieces_of(kind, wanted) p LOOP
-        RETURN NEXT;
-    END LOOP;
-    RETURN QUERY SELECT own, f, NULL::boolean, NULL::timestamptz, NULL::uuid, NULL::boolean, NULL, NULL, NULL, NULL, NULL, NULL, NULL, NULL, NULL::bigint, NULL, NULL, NULL::bigint FROM faults(kind, wanted) f;
-    RETURN QUERY SELECT own, NULL, knows(kind, wanted), (SELECT min(moment(taken)) FROM file WHERE name = 'running desk'),
-        (SELECT token FROM state ORDER BY number DESC LIMIT 1), EXISTS (SELECT FROM state WHERE token = ANY (seen)),
-        NULL, NULL, NULL, NULL, NULL, NULL, NULL, NULL, NULL::bigint, NULL, NULL, NULL::bigint;
-END $$;
-REVOKE EXECUTE ON FUNCTION answer FROM PUBLIC;  -- a role that may only ask gets this one, and no table
+DROP FUNCTION IF EXISTS answer(text, text, integer, uuid[]);  -- of 1.0.0
 RESET client_min_messages;

@@ -4,7 +4,6 @@ from __future__ import annotations
 
 import concurrent.futures
 import pathlib
-import shutil
 from collections.abc import Callable
 
 import pytest
@@ -69,12 +68,6 @@ def set_up(line: Line) -> dict[str, str]:
     return {"TRACEDESK_SET_UP": str(folder)}
 
 
-def started(line: Line) -> None:
-    line.end()
-    line.settle().expect()
-    line.serve()
-
-
 def added(line: Line) -> None:
     file = line.folder.parent / "mended.csv"
     file.write_text("reel,date_code\nK-3,2614\n")
@@ -89,9 +82,7 @@ def received(line: Line) -> None:
 RECORDED: dict[str, Callable[[Line], object]] = {  # who lets the desk record the head
     "add": added,
     "collect": received,
-    "a copy": lambda line: line.backup().expect(),
-    "a start": started,
-    "a roll-over": lambda line: line.rollover().expect(),
+    "a seal": lambda line: line.seal().expect(),
 }
 
 
@@ -105,7 +96,7 @@ def test_an_older_book_is_noticed_once_the_desk_has_recorded_more(line: Line, wh
     newer = taken(line)
     assert boards(asked(line).expect()) == ["SN-1", "SN-3", "SN-4"]
     put(older)
-    assert boards(asked(line).expect(3, LACKED, "from a copy")) == ["SN-1", "SN-4"]
+    assert boards(asked(line).expect(3, LACKED, "from a mirror")) == ["SN-1", "SN-4"]
     run_tool("reels", "list", "date_code=2614", "--archive", line.archive).expect(3, "K-1", LACKED)
     line.recall(lot="L-3").expect()  # which no attribute can change
     put(newer)
@@ -135,41 +126,30 @@ def test_a_book_that_was_lost_is_noticed_after_roll_overs_and_in_archives(
     line: Line, how: str
 ) -> None:
     attributes.add(line.archive, [*FIRST, *MENDED], DAY, "erp")
-    line.backup().expect()
+    line.seal().expect()
     LOST[how](line)
     asked(line).expect(3, LACKED)
     for name in ("A", "B"):
         line.more(name)
         line.rollover().expect()
         asked(line).expect(3, LACKED)
-    archives: list[Word] = ["--archives-only", "--line", line.name, "-", line.catalogue]
+    archives: list[Word] = ["--line", line.name, "-", line.folder]
     asked(line, *archives).expect(3, LACKED)
-    line.backup().expect(4, LACKED)
+    line.seal().expect(4, LACKED)
     run_tool("reels", "list", "--archive", line.archive).expect(3, LACKED)
 
 
-def test_a_restored_desk_records_the_newest_row(line: Line) -> None:
+def test_a_restored_desk_records_the_newest_row_at_its_next_seal(line: Line) -> None:
     """The copy is from before that row, and so is the book that somebody puts back later."""
     attributes.add(line.archive, FIRST, DAY, "erp")
     older = taken(line)
-    line.backup().expect()
+    line.seal().expect()
     attributes.add(line.archive, MENDED, DAY, "erp")
-    line.backup("--restore").expect()
+    line.restore().expect()
+    line.seal().expect()
     assert boards(asked(line).expect()) == ["SN-1", "SN-3", "SN-4"]
     put(older)
     asked(line).expect(3, LACKED)
-
-
-def test_a_line_that_was_lost_comes_back_with_its_book(line: Line) -> None:
-    attributes.add(line.archive, [*FIRST, *MENDED], DAY, "erp")
-    line.backup().expect()
-    line.end()
-    for path in (line.archive, line.folder / "untraced"):
-        shutil.rmtree(path)
-    line.file.unlink()
-    line.backup("--restore").expect()
-    done = asked(line).expect(3, "nobody knows what the desk lacks")
-    assert boards(done) == ["SN-1", "SN-3", "SN-4"] and "reels.csv" not in done.said
 
 
 def test_a_desk_gets_no_head_of_a_row_that_may_not_be_on_disk(line: Line) -> None:
@@ -189,17 +169,17 @@ def test_a_desk_gets_no_head_of_a_row_that_may_not_be_on_disk(line: Line) -> Non
 
 @pytest.fixture
 def archive(folder: pathlib.Path) -> pathlib.Path:
-    for name in ("archive", "untraced"):
+    for name in ("sealed", "untraced"):
         (folder / name).mkdir()
-    return folder / "archive"
+    return folder / "sealed"
 
 
 def test_each_row_is_there_once_and_noted_wherever_a_call_is_killed(folder: pathlib.Path) -> None:
     for number in range(1, MOST_WRITES):
         room = folder / f"kill-{number}"
-        for name in ("archive", "untraced"):
+        for name in ("sealed", "untraced"):
             (room / name).mkdir(parents=True)
-        archive = room / "archive"
+        archive = room / "sealed"
         attributes.add(archive, FIRST[:1], DAY, "erp")
         head = attributes.head_of(archive)
         with killed_at(number) as writes:

@@ -1,10 +1,12 @@
-"""tracedesk-begin on desks of random messages: the new desk answers as the old one.
+"""What a roll-over carries over, on desks of random messages: the new desk answers as the old one.
 
-Of each seed random messages are fed to a desk, some of them refused, and a new one is begun with
-what tracedesk-begin prints.
+Of each seed random messages are fed to a desk, some of them refused, and a new one is begun from
+it.
 
     /usr/bin/python3 -m pytest ops/tests/test_begin.py -m whole -n 4
 """
+from __future__ import annotations
+
 import datetime
 import json
 import pathlib
@@ -13,10 +15,10 @@ import pytest
 
 from lab import Answer
 from lab.desk import Desk
-from lab.floor import MACHINES, NEW_BOARDS, OLD_BOARDS, Floor, say, spelled, texts
-from lab.here import call_here
+from lab.floor import MACHINES, NEW_BOARDS, OLD_BOARDS, Floor, say, texts
 from lab.messages import Message
-from lab.tools import Word, run
+from lab.tools import run
+from tracedesk_dev import begun as goes_on
 from tracedesk_ops import plant
 
 IN_GATE, LATER_MESSAGES = 3, 300
@@ -50,9 +52,9 @@ def begun(request: pytest.FixtureRequest, program: pathlib.Path, folder: pathlib
     return Begun(program, folder, request.param)
 
 
-def begin(old: Desk, new: Desk, *words: Word) -> list[Message]:
+def begin(old: Desk, new: Desk, at: int | None = None, loads: bool = True) -> list[Message]:
     """Begins a desk, which has to accept all messages, and returns these."""
-    lines = call_here("begin", *words, old.file).expect().out.encode().splitlines()
+    lines = goes_on.messages_of(old.file, at, loads)
     for line, answer in zip(lines, new.feed(lines), strict=True):
         assert answer["Answer"] == "Accepted", f"{line[:300]!r} is answered {answer}"
     return [json.loads(line) for line in lines]
@@ -105,7 +107,7 @@ def last_minute(desk: Desk) -> int:
 
 def test_desk_that_is_begun_without_its_loads(begun: Begun) -> None:
     """It is alike to the old one once that has unloaded its slots."""
-    begin(begun.old, begun.new, "--no-loads")
+    begin(begun.old, begun.new, loads=False)
     minute = last_minute(begun.old)
     slots = begun.old.rows("SELECT DISTINCT machine, slot FROM mount")
     unloads = [
@@ -119,7 +121,7 @@ def test_desk_that_is_begun_without_its_loads(begun: Begun) -> None:
 def test_desk_that_is_begun_later(begun: Begun) -> None:
     """It is alike to the old one once that has taken a ClockSet."""
     minute = last_minute(begun.old) + 5_000
-    begin(begun.old, begun.new, "--at", spelled(minute))
+    begin(begun.old, begun.new, minute)
     begun.old.feed(texts([say("ClockSet", "on", minute)]))
     expect_alike(begun.old, begun.new)
 
@@ -127,10 +129,10 @@ def test_desk_that_is_begun_later(begun: Begun) -> None:
 def test_desk_that_is_begun_earlier(begun: Begun) -> None:
     """The messages are those without --at, each so much earlier."""
     off = 2_000_000
-    at = spelled(last_minute(begun.old) - off)
+    at = last_minute(begun.old) - off
     plain = begin(begun.old, begun.new)
     other = Desk(begun.program, begun.folder / "earlier")
-    for one, earlier in zip(plain, begin(begun.old, other, "--at", at), strict=True):
+    for one, earlier in zip(plain, begin(begun.old, other, at), strict=True):
         times = [datetime.datetime.fromisoformat(it.pop("TimeStamp")) for it in (one, earlier)]
         assert one == earlier
         apart = datetime.timedelta(minutes=off)

@@ -251,16 +251,23 @@ def test_a_name_that_several_files_have_is_no_choice(folder: Path) -> None:
 
 def old_folder(folder: Path) -> Path:
     """An older line that was rolled over twice and restored once: b is in no file of its chain."""
-    folder.mkdir()
-    old = files.line(folder, ["a"])
-    files.roll_over(old)
-    copied = files.copy(old, folder / "copy")
-    files.accept(old.desk, ["b"])
-    files.restore(old, copied)
-    files.accept(old.desk, ["c"])
-    files.roll_over(old)
-    files.accept(old.desk, ["d"])
+    aside = folder / "archive/aside/2026-11-25T061203Z"
+    aside.mkdir(parents=True)
+    files.desk(folder / "desk", ["a"])
+    first = archived(folder)
+    files.desk(aside / "desk", ["b"], mark=first)
+    files.desk(folder / "desk", ["c"], mark=first)
+    files.desk(folder / "new", ["d"], mark=archived(folder))
+    (folder / "new").rename(folder / "desk")
     return folder
+
+
+def archived(folder: Path) -> str:
+    """Puts the desk into the archive, by the name that 1.0.0 gave it; its digits."""
+    digits = sealed.digits_of(folder / "desk")
+    name = f"L1-19700101T0001Z-19700101T0002Z-{digits}"
+    (folder / "desk").rename(folder / "archive" / name)
+    return digits
 
 
 def test_a_folder_of_an_older_release_is_taken_over(folder: Path) -> None:

@@ -3,13 +3,15 @@ from __future__ import annotations
 
 import os
 import pathlib
+import shutil
 import time
 
 import pytest
 
 from lab import files
+from lab.desk import rows_of
 from lab.folders import audit, line_of, rolled_over, seal
-from tracedesk_ops import around, change, model, plant, sealed_watch, store
+from tracedesk_ops import around, change, model, plant, sealed, sealed_watch
 from tracedesk_ops.line import LineFolder
 
 Path = pathlib.Path
@@ -29,25 +31,18 @@ def line(folder: Path) -> LineFolder:
     return line
 
 
-def as_read(line: LineFolder) -> model.Line:
-    return model.Line(line.name, line.desk, line.sealed)
-
-
-def lacking(line: LineFolder) -> int:
-    return sum(off.lacking for off in store.Reader().off_chain(as_read(line)))
+def survey(line: LineFolder) -> around.Survey:
+    return around.survey(line, line.name)
 
 
 def test_the_chain_of_a_folder_and_what_it_lacks(line: LineFolder) -> None:
-    (archive,) = store.Reader().chain(as_read(line)).archives
-    assert archive.path.parent == line.sealed and archive.commands == 2
-    survey = around.survey(line.sealed, ["L1"], [line.desk])
-    (lost,) = line.lost.iterdir()
-    assert [its.file for its in survey.archives] == [archive.path.name]
-    (fault,) = survey.faults
-    assert str(lost) in fault and "a restore put it aside, and 1 of its commands" in fault
+    found = survey(line)
+    (archive,), (lost,) = found.archives, line.lost.iterdir()
+    assert archive.commands == 2 and found.last and found.last.commands == 3
+    (fault,) = found.faults
+    assert fault.startswith(f"1 commands of S are in {lost}, the first of")
     files.accept(line.desk, ["c"])
-    assert lacking(line) == 0
-    assert not around.survey(line.sealed, ["L1"], [line.desk]).faults
+    assert not survey(line).faults
 
 
 @pytest.mark.parametrize("folder_of_it", ["sealed", "lost"])
@@ -57,29 +52,73 @@ def test_a_file_that_was_changed_is_named(line: LineFolder, folder_of_it: str) -
     content[-1] ^= 1
     path.unlink()
     path.write_bytes(content)
-    faults = around.survey(line.sealed, ["L1"], [line.desk]).faults
-    assert any(str(path) in fault for fault in faults)
+    assert any(str(path) in fault for fault in survey(line).faults)
     path.write_bytes(b"no database")
-    assert any(str(path) in fault for fault in around.survey(line.sealed, ["L1"]).faults)
+    assert any(str(path) in fault for fault in survey(line).faults)
 
 
-def test_an_archive_that_is_missing_is_named(line: LineFolder) -> None:
-    (archive,) = store.Reader().chain(as_read(line)).archives
-    archive.path.unlink()
-    with pytest.raises(store.Broken, match=archive.digits):
-        lacking(line)
+def test_an_archive_that_is_missing_is_named_and_the_others_are_asked(line: LineFolder) -> None:
+    rolled_over(line)
+    first, second = survey(line).archives
+    (line.sealed / first.file).unlink()
+    found = survey(line)
+    assert found.archives == [second]
+    assert any(f"{first.file} is missing" in fault for fault in found.faults)
+
+
+def test_without_a_desk_the_newest_file_stands_for_it(line: LineFolder) -> None:
+    """A mirror has no desk."""
+    files.accept(line.desk, ["c"])
+    newest = seal(line)
+    line.desk.unlink()
+    found = survey(line)
+    assert found.last and found.last.file == newest.path.name and not found.faults
+
+
+def test_a_desk_that_was_set_back_lacks_what_was_sealed(line: LineFolder) -> None:
+    kept = line.path.with_name("snapshot")
+    shutil.copyfile(line.desk, kept)
+    seal(line, "e")
+    shutil.copyfile(kept, line.desk)
+    assert any("1 commands of S are in" in fault for fault in survey(line).faults[1:])
+
+
+def test_desks_that_changed_places_are_named(folder: Path) -> None:
+    """Each has the same first message, as one that was sent to both lines."""
+    both = [line_of(folder / name, "to both", f"of {name}") for name in ("L1", "L2")]
+    for line in both:
+        seal(line)
+    first, second = (line.desk for line in both)
+    first.rename(folder / "between")
+    second.rename(first)
+    (folder / "between").rename(second)
+    for line in both:
+        assert any("1 commands of S are in" in fault for fault in survey(line).faults)
 
 
 # --- The watch
 
 
+def has_all(_: str) -> bool:
+    return True
+
+
+def test_a_newer_file_of_another_desk_says_nothing_of_the_age(line: LineFolder) -> None:
+    """As one of a trial restore on another machine, or of another line."""
+    ours = [uid for (uid,) in rows_of(line.desk, "SELECT uid FROM accepted")]
+    other = line_of(line.path.with_name("L2"), *ours[:1], "x")
+    shutil.copy(seal(other).path, line.sealed)
+    with pytest.raises(plant.Fault, match="isn't the running desk's"):
+        [*sealed_watch.newest(line.sealed, ours.__contains__)]
+
+
 def test_the_watch_knows_the_newest_seal_and_the_archives(line: LineFolder) -> None:
-    (archive,) = store.Reader().chain(as_read(line)).archives
+    (archive,) = survey(line).archives
     for path in line.sealed.iterdir():
         os.utime(path, (1_000_000, 1_000_000))
     before = time.time()
     newest = seal(line, "e")
-    samples = {name: value for name, value, _ in sealed_watch.newest(line.sealed)}
+    samples = {name: value for name, value, _ in sealed_watch.newest(line.sealed, has_all)}
     assert before - 1 <= samples["backup_timestamp_seconds"] <= time.time()
     assert samples["backup_commands"] == newest.commands and samples["backup_pieces"] == 0
     samples = {
@@ -89,25 +128,25 @@ def test_the_watch_knows_the_newest_seal_and_the_archives(line: LineFolder) -> N
     assert samples["rollover_timestamp_seconds"] == 60 * archive.last_minute
     os.utime(newest.path, (time.time() + 3600,) * 2)
     with pytest.raises(plant.Fault, match="in the future"):
-        [*sealed_watch.newest(line.sealed)]
+        [*sealed_watch.newest(line.sealed, has_all)]
 
 
 def test_the_watch_knows_an_archive_that_only_the_running_desk_names(line: LineFolder) -> None:
     rolled_over(line)
-    digits = store.Reader().desk(line.desk).mark
+    digits = sealed.begun_in(line.desk)
 
     def has(uid: str) -> bool:
         return uid in (model.BEGUN, model.first_uid(digits))
 
     (_, commands, _), *_ = list(sealed_watch.archives(line.sealed, has))[1:]
-    assert commands == 2 + store.Reader().file(line.sealed / f"{digits}.desk").commands
+    assert commands == 2 + sealed.read(line.sealed / f"{digits}.desk").commands
     (line.sealed / f"{digits}.desk").unlink()
     with pytest.raises(plant.Fault, match="lacks the file"):
         [*sealed_watch.archives(line.sealed, has)]
 
 
 def test_the_watch_misses_an_archive(line: LineFolder) -> None:
-    (archive,) = store.Reader().chain(as_read(line)).archives
-    archive.path.unlink()
-    with pytest.raises(plant.Fault, match=f"{archive.digits}.desk is missing"):
+    (archive,) = survey(line).archives
+    (line.sealed / archive.file).unlink()
+    with pytest.raises(plant.Fault, match=f"{archive.file} is missing"):
         [*sealed_watch.archives(line.sealed, lambda _: False)]

@@ -45,8 +45,8 @@ def last_row_is_there(newer: Sealed, older: Sealed) -> bool:
 
 def read_by_name(path: sealed.Path) -> Sealed:
     with sealed.opened(path) as database:
-        sizes = [sealed.size(database, its) for its in sealed.LISTS]
-        return Sealed(path, path.stem, sealed.begun_from(database), *sizes)
+        commands, entries = (sealed.size(database, its) for its in sealed.LISTS)
+        return Sealed(path, path.stem, sealed.begun_from(database), commands, entries)
 
 
 read_all, lacking = lineage.read_all, lineage.lacking

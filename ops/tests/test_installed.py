@@ -13,7 +13,7 @@ pytestmark = [pytest.mark.root, pytest.mark.xdist_group("machine")]
 CONNECT = ROOT / "docs/connect.md"
 C_LIBRARY = {"libc.so.6", "libm.so.6", "libgcc_s.so.1", "ld-linux-x86-64.so.2"}
 UNITS = "/lib/systemd/system"  # of the .deb
-KEPT = "/var/lib/tracedesk /var/lib/tracedesk-send /var/backups/tracedesk /etc/tracedesk-send"
+KEPT = "/var/lib/tracedesk /var/lib/tracedesk-send /etc/tracedesk-send"
 SUMS = f"find {KEPT} -type f -print0 | sort -z | xargs -0 sha256sum"
 BROUGHT = (
     "/usr/bin/tracedesk* /usr/lib/tracedesk* /lib/systemd/system/tracedesk*"
@@ -21,20 +21,14 @@ BROUGHT = (
     " /usr/lib/python3/dist-packages/tracedesk /usr/share/man/man1/tracedesk*"
 )
 CHECKED = """
-tracedesk-check || echo "status $?"
 systemctl stop tracedesk
 cd /var/lib/tracedesk
 chown root desk; chmod 600 desk
-tracedesk-check || echo "status $?"
+tracedesk-ops check L1 2>&1 || echo "status $?"
 chown tracedesk desk
-runuser -u tracedesk -- tracedesk-check
-tracedesk-check
+tracedesk-ops check L1
 systemctl start tracedesk
-cd $(ls -d /var/backups/tracedesk/2* | tail -n 1)
-tracedesk-check desk
-sha256sum --check --quiet SHA256SUMS; ls
 """
-SOUND = r"{}: lawful \d+\n"
 DESK = "/var/lib/tracedesk/desk"
 
 
@@ -114,9 +108,9 @@ def test_a_desk_that_is_missing_is_not_begun_anew(machine: Machine) -> None:
         (
             (
                 f"chown tracedesk:tracedesk {DESK}*; systemctl reset-failed tracedesk;"
-                " systemctl daemon-reload; ls /var/backups/tracedesk"
+                " systemctl daemon-reload; ls /var/lib/tracedesk/sealed"
             ),
-            "20",
+            ".desk",
         ),
     ],
 )
@@ -138,18 +132,14 @@ def test_who_holds_the_desks_connection_is_seen(machine: Machine) -> None:
 
 
 def test_faults_of_the_desks_file_are_named(machine: Machine) -> None:
-    """Who has it open, whose it is, and that it is sound; and a copy keeps its checksums."""
+    """Whose it is, and that it is sound."""
     said = machine.restart(CHECKED)
     wanted = (
-        rf"tracedesk-check: {DESK} can't be judged: another process has it open:"
-        r" process \d+ \(tracedesk\)\. .*\n"
-        r"status 3\n"
-        rf"no permission: tracedesk may not read {DESK},"
+        rf"tracedesk-ops: no permission: tracedesk may not read {DESK},"
         r" which belongs to user root and has mode 600: .*\n"
-        r"no permission: tracedesk may not write .*\n"
+        r"tracedesk-ops: no permission: tracedesk may not write .*\n"
         r"status 1\n"
-        rf"{SOUND.format(DESK)}{SOUND.format(DESK)}{SOUND.format('desk')}"
-        r"SHA256SUMS\narchive\nbackup.json\ndesk\n"
+        r"/var/lib/tracedesk: sound, \d+ files, \d+ commands\n"
     )
     assert re.fullmatch(wanted, said)
 

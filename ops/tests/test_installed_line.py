@@ -1,15 +1,15 @@
-"""A line on a fresh Debian 12: roll-overs, copies, timers, recalls, the watch and the clock."""
+"""A line on a fresh Debian 12: roll-overs, restores, recalls, the watch and the clock."""
 import json
 import re
 
 import pytest
 from lab.installed import archives_of, metrics_of
-from lab.machine import ARCHIVE, COPIES, URL, Machine, block_with
+from lab.machine import ARCHIVE, URL, Machine
 from lab.waits import wait_for
 
 pytestmark = [pytest.mark.root, pytest.mark.xdist_group("machine")]
 
-LOT = f"tracedesk-recall lot L-77 --line L1 http://127.0.0.1:8080 {ARCHIVE}/catalogue.csv"
+LOT = "tracedesk-recall lot L-77 --line L1 http://127.0.0.1:8080 /var/lib/tracedesk"
 REPORT = "/trace/lot?lot=L-77&detail=4"
 CLOCK_ALONE = r"""
 mkdir -p /root/idle; rm -f /root/idle/desk*
@@ -33,18 +33,9 @@ pg_ctlcluster 15 main reload
 runuser -u postgres -- createuser plant; runuser -u postgres -- createdb --owner plant plant
 export PGDATABASE=plant PGUSER=plant PGHOST=/var/run/postgresql
 psql -q -f /usr/share/tracedesk/plant/schema.sql
-tracedesk-plant-load /var/backups/tracedesk > /tmp/loaded
+tracedesk-plant-load > /tmp/loaded
 psql --csv -v lot=L-77 -f /usr/share/tracedesk/plant/pieces.sql
 """
-
-
-def sums(machine: Machine, folder: str) -> set[str]:
-    """The checksum of each file in a folder but of logs, of which each run writes the head anew,
-    and of desks that a restore put aside.
-    """
-    but = "! -name '*-wal' ! -path '*/aside/*'"
-    find = f"find {folder} -type f {but} -print0 | sort -z | xargs -0 sha256sum"
-    return set(machine.shell(find).splitlines())
 
 
 def rows_in(text: str) -> list[str]:
@@ -52,83 +43,47 @@ def rows_in(text: str) -> list[str]:
     return [line for line in text.splitlines() if not line.startswith("tracedesk-")]
 
 
-# --- Archives and copies
+# --- Sealed files
+
+
+def sealed(machine: Machine) -> set[str]:
+    """The checksum and name of each sealed file."""
+    return set(machine.shell(f"sha256sum {ARCHIVE}/*.desk").splitlines())
 
 
 def test_a_roll_over_keeps_the_archives_before(machine: Machine) -> None:
     """And it is refused where the desk has taken nothing since."""
-    archives_of(machine, 1)
-    before = sums(machine, f"{ARCHIVE}/L1-*")
+    before = archives_of(machine, 1)
     assert machine.post("kept") == "200"
-    said = machine.restart("tracedesk-rollover 2>&1")
-    archived = re.search(r"(L1-\S+) is archived", said)
-    after = sums(machine, f"{ARCHIVE}/L1-*")
-    assert archived and before < after and f"/{archived[1]}" in "".join(after - before)
-    desk = sums(machine, "/var/lib/tracedesk/desk")
-    assert "has taken no command" in machine.shell("! tracedesk-rollover 2>&1")
-    assert sums(machine, f"{ARCHIVE}/L1-*") == after
-    assert sums(machine, "/var/lib/tracedesk/desk") == desk
+    machine.restart("tracedesk-ops rollover L1 2>&1")
+    after = archives_of(machine, 1)
+    assert after[: len(before)] == before and len(after) == len(before) + 1
+    assert "has taken no command" in machine.shell("! tracedesk-ops rollover L1 2>&1")
+    assert archives_of(machine, 1) == after
 
 
-def test_timers_copy_and_roll_over_once_it_is_due(machine: Machine) -> None:
-    """And again after a kill, until which senders come again."""
-    before = machine.shell(f"ls {ARCHIVE}").split()
-    machine.shell("systemctl start tracedesk-backup tracedesk-rollover")
-    assert machine.shell(f"ls {ARCHIVE}").split() == before
-    at = "/run/systemd/system/tracedesk-rollover.service.d"
-    call = "/usr/bin/tracedesk-rollover --if-due --pieces 0"
-    lines = (
-        "[Service]",
-        "ExecStart=",
-        f"ExecStart={call}",
-        "RestartSec=60",  # until which a busy machine has to be asked
-        "Environment=TRACEDESK_KILL_AFTER=placed",
-    )
-    assert machine.post("T1") == "200"
-    machine.write("\n".join(lines) + "\n", f"{at}/now.conf")
-    machine.shell("systemctl daemon-reload; ! systemctl start tracedesk-rollover")
-    come_again = '503\n{"Answer":"Proxy","Fault":"ComeAgain"}'
-    assert machine.post("T2", body=True) == come_again
-    drained = "ls /run/tracedesk-drained 2> /dev/null || true"
-    wait_for("senders are served again", lambda: machine.answers() and not machine.shell(drained))
-    assert machine.post("T2") == "200"
-    reset = "systemctl reset-failed tracedesk-rollover || true"
-    machine.shell(f"rm -r {at}; systemctl daemon-reload; {reset}")
-    assert len(machine.shell(f"ls {ARCHIVE}").split()) == len(before) + 1
-
-
-def test_a_copy_has_the_archives_and_overwrites_none(machine: Machine) -> None:
+def test_a_restore_brings_a_desk_back(machine: Machine) -> None:
+    """The desk's unit had failed. A recall names what is lost, and a damaged file is named."""
     archives_of(machine, 3)
-    kept, copies = sums(machine, ARCHIVE), sums(machine, f"{COPIES}/2*")
-    machine.restart("tracedesk-backup")
-    newest = machine.shell(f"ls -d {COPIES}/2* | tail -n 1").strip()
-    wanted = {line.replace(ARCHIVE, f"{newest}/archive") for line in kept}
-    assert sums(machine, f"{newest}/archive") == wanted
-    assert copies < sums(machine, f"{COPIES}/2*")
-
-
-def test_a_restore_brings_archives_and_a_desk_back(machine: Machine) -> None:
-    """The desk's unit had failed. A recall names what lies aside, and a damaged copy is named."""
-    archives_of(machine, 3)
-    kept = sums(machine, ARCHIVE)
-    machine.restart("tracedesk-backup")
+    machine.restart("tracedesk-ops seal L1 || test $? = 4")
+    kept = sealed(machine)
     start = (
         "for n in $(seq 40); do systemctl start tracedesk || break; sleep 0.1; done 2> /dev/null"
     )
-    machine.shell(f"rm -r {ARCHIVE}/*; systemctl stop tracedesk")
-    machine.shell(f"echo no desk > /var/lib/tracedesk/desk; {start}")
-    machine.restart(block_with("tracedesk-backup --restore"))
-    assert sums(machine, ARCHIVE) == kept
+    machine.shell(f"systemctl stop tracedesk; echo no desk > /var/lib/tracedesk/desk; {start}")
+    again = "systemctl reset-failed tracedesk; systemctl start tracedesk"
+    said = machine.restart(
+        f"systemctl stop tracedesk; tracedesk-ops restore L1 2>&1 || test $? = 4; {again}"
+    )
+    assert "it can't be read" in said and sealed(machine) >= kept
     said = machine.shell(f"{LOT} 2>&1 > /dev/null && exit 1 || test $? = 3")
-    assert "a restore put it aside" in said
-    machine.shell(f"rm -rf /root/aside; mv {ARCHIVE}/aside /root")
+    assert "/var/lib/tracedesk/lost/" in said
+    machine.shell("mv /var/lib/tracedesk/lost /root/lost")
     machine.shell(f"{LOT} > /dev/null 2>&1")
-    newest = machine.shell(f"ls -d {COPIES}/2* | tail -n 1").strip()
-    archive = f"$(ls {newest}/archive/L1-* | head -n 1)"
-    machine.shell(f"printf x | dd of={archive} bs=1 seek=50000 conv=notrunc status=none")
-    assert "is damaged: archive/L1-" in machine.shell("! tracedesk-backup --check 2>&1")
-    machine.restart("tracedesk-backup || test $? = 4")  # 4: it names the damaged one
-    machine.shell("tracedesk-backup --check; tracedesk-backup --age")
+    oldest = f"$(ls -t {ARCHIVE}/*.desk | tail -n 1)"
+    machine.shell(f"cp {oldest} /root/kept; printf x | dd of={oldest} bs=1 seek=50000 conv=notrunc")
+    assert "was changed" in machine.shell("! tracedesk-ops check L1 2>&1")
+    machine.shell(f"cat /root/kept > {oldest}; tracedesk-ops check L1")
 
 
 # --- Recalls
@@ -146,7 +101,7 @@ def test_a_recall_is_the_reports_of_all_files(machine: Machine) -> None:
 
 
 def test_postgresql_prints_what_a_recall_prints(machine: Machine) -> None:
-    machine.restart("tracedesk-backup")
+    machine.restart("tracedesk-ops seal L1")
     by_plant = rows_in(machine.shell(BY_POSTGRES))
     by_tool = rows_in(machine.shell(f"{LOT} --show pieces 2> /dev/null"))
     assert by_plant == by_tool and len(by_plant) > 1

@@ -32,12 +32,12 @@ done
 """
 ACCEPTED = """
 import pathlib
-from tracedesk_ops import around, copies
-path = pathlib.Path("{archive}")
+from tracedesk_ops import around, copies, line, sealed
+folder = line.LineFolder(pathlib.Path("{archive}").parent)
 query = "SELECT uid FROM accepted WHERE uid LIKE '{uids}' AND command LIKE 'PartDefined%'"
 found = []
-files = [path / archive.file for archive in around.survey(path).archives]
-for file in [*files, path.parent / "desk"]:
+archives = around.survey(folder, "L1", sealed.named).archives
+for file in [*(folder.sealed / its.file for its in archives), folder.desk]:
     with copies.opened(file) as database:
         found += [uid for (uid,) in database.execute(query)]
 print(len(found), len(set(found)))
@@ -103,8 +103,8 @@ def test_a_sender_goes_on_over_a_roll_over_and_a_copy(machine: Machine) -> None:
     write_messages(machine, *(part(f"R{number}") for number in range(600)))
     sending = begin(machine, f"{BY_PASSWORD} --stop-at-refusal")
     wait_for("it sends", lambda: machine.shell("cat /tmp/sent.answers 2> /dev/null || true"))
-    machine.shell("tracedesk-rollover 2>&1")
-    machine.shell("tracedesk-backup 2>&1")
+    machine.shell("tracedesk-ops rollover L1 2>&1")
+    machine.shell("tracedesk-ops seal L1 2>&1")
     said, _ = sending.communicate()
     assert "status 0" in said
     assert machine.shell("grep -c Accepted /tmp/sent.answers").strip() == "600"

@@ -29,7 +29,7 @@ LINKS = {
     "docs/api": "/usr/share/doc/tracedesk/api",
 }
 QUICK = (  # what names of files of tests begin with, which want nothing that the machine hasn't
-    *("backup", "begin", "check", "move", "rollover", "recall", "three_ways", "plant_load"),
+    *("begin", "check", "folder", "move", "rollover", "recall", "three_ways", "plant_load"),
     *("untraced", "watch", "clock"),
 )
 FILES = sorted(

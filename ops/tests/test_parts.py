@@ -4,10 +4,11 @@ from typing import Any, Iterator
 
 import pytest
 
-from lab import ROOT, messages
+from lab import messages
 from lab.desk import log_into_file
-from lab.tools import Word, run
-from tracedesk_ops import chains, model, parts, plant, store
+from lab.tools import run
+from tracedesk_dev import begun
+from tracedesk_ops import chains, parts, plant, sealed
 
 FILES = 9  # of the chain
 LOT = ["lot", "L1", "--pieces"]
@@ -37,8 +38,7 @@ def files(
     for number in range(FILES):
         file = room / f"file-{number}"
         if made:
-            words: list[Word] = [ROOT / "ops/tracedesk-begin", "--program", program, made[-1]]
-            lines = run(words).expect().out.encode().splitlines()
+            lines = begun.messages_of(made[-1])
         given = b"".join(line + b"\n" for line in (*lines, *board(number)))
         run([program, "feed", "--db", file], given=given).expect()
         log_into_file(file)
@@ -47,7 +47,7 @@ def files(
 
 
 def asked(chain: pathlib.Path, words: list[str], files: list[pathlib.Path]) -> chains.Answer:
-    digits = [store.sha256_of(file)[: model.DIGITS] for file in files]
+    digits = [sealed.digits_of(file) for file in files]
     return chains.asked(str(chain), words, files, digits)
 
 

@@ -6,7 +6,7 @@ from collections.abc import Callable, Iterator
 
 import pytest
 
-from tracedesk_ops import places, untraced
+from tracedesk_ops import places
 
 SetUp = Callable[..., None]
 
@@ -30,23 +30,14 @@ def test_a_line_alone_has_the_places_of_the_package(set_up: SetUp) -> None:
     set_up("certificates", subject="sender")
     (its,) = places.lines()
     home = pathlib.Path("/var/lib/tracedesk")
-    assert its.db == home / "desk"
-    assert (its.archive, its.inbox, its.status) == (
-        home / "archive",
-        home / "untraced",
-        home / "status",
-    )
-    assert (its.copies, its.url) == (
-        pathlib.Path("/var/backups/tracedesk"),
-        "http://127.0.0.1:8080",
-    )
+    assert its.db == home / "desk" and its.url == "http://127.0.0.1:8080"
+    assert its.archive == home / "sealed"
 
 
-def test_what_is_not_named_lies_next_to_the_desk(set_up: SetUp) -> None:
-    set_up("L2", line="L2", db="/srv/l2/desk", inbox="/srv/inbox", port=8090)
+def test_all_places_are_next_to_the_desk(set_up: SetUp) -> None:
+    set_up("L2", line="L2", db="/srv/l2/desk", port=8090)
     (its,) = places.lines()
-    assert its.archive == pathlib.Path("/srv/l2/archive")
-    assert its.inbox == pathlib.Path("/srv/inbox")
+    assert its.archive == pathlib.Path("/srv/l2/sealed")
     assert its.url == "http://127.0.0.1:8090"
 
 
@@ -60,30 +51,14 @@ def test_a_line_that_is_a_folder_has_its_places_there(
     for its in places.lines():
         folder = tmp_path / "home" / its.line
         assert (its.db, its.archive) == (folder / "desk", folder / "sealed")
-        assert (its.inbox, its.status) == (folder / "untraced", folder / "status")
-
-
-def test_an_archive_elsewhere_moves_no_inbox(set_up: SetUp, tmp_path: pathlib.Path) -> None:
-    """Nor does a link to it: the inbox is the one that the line's set-up file names."""
-    (tmp_path / "other").mkdir()
-    (tmp_path / "archive").symlink_to(tmp_path / "other")
-    set_up("L1", line="L1", db=tmp_path / "var/desk", archive=tmp_path / "archive")
-    inbox = tmp_path / "var/untraced"
-    for archive in (tmp_path / "archive", tmp_path / "other"):
-        assert places.of_archive(archive).line == "L1"
-        assert untraced.inbox_of(archive) == inbox
-
-
-def test_a_line_without_a_set_up_file_has_its_places_next_to_the_desk(set_up: SetUp) -> None:
-    assert places.of_desk(pathlib.Path("/srv/x/desk")).status == pathlib.Path("/srv/x/status")
-    assert places.of_archive(pathlib.Path("/srv/x/archive")).db == pathlib.Path("/srv/x/desk")
 
 
 @pytest.mark.parametrize(
     "words, wrong",
     [
         ({"line": "L1", "inbx": "/srv/x"}, "inbx is none of"),
-        ({"line": "L1", "inbox": "untraced"}, "inbox is none of .* which begins with /"),
+        ({"line": "L1", "db": "x/desk"}, "db is none of .* no whole path"),
+        ({"line": "L1", "inbox": "/srv/x"}, "inbox is none of"),
         ({"line": "L1", "port": "http"}, "port is none of"),
         ({"db": "/srv/desk"}, "names no line"),
     ],
@@ -104,20 +79,13 @@ def test_two_lines_have_two_desks(set_up: SetUp) -> None:
 def test_two_lines_have_two_ports(set_up: SetUp) -> None:
     """Else what is told one of them would be told the other."""
     set_up("L1", line="L1")
-    set_up("L2", line="L2", db="/srv/desk")
+    set_up("L2", line="L2", db="/srv/desk", port=8080)
     with pytest.raises(places.NotSetUp, match="have port = 8080"):
         places.lines()
 
 
-def test_the_proxy_has_the_same_places(set_up: SetUp) -> None:
-    set_up("L1", line="L1", inbox="/srv/in box", status="/srv/status")
-    assert places.maps_for_the_proxy(places.lines()[0]) == {
-        "inbox.map": '"" "/srv/in box";\n',
-        "status.map": '"" "/srv/status";\n',
-    }
-
-
-def test_the_proxy_takes_no_path_that_it_would_read_otherwise(set_up: SetUp) -> None:
-    set_up("L1", line="L1", inbox="/srv/$host")
-    with pytest.raises(places.NotSetUp, match="the proxy takes no path"):
-        places.maps_for_the_proxy(places.lines()[0])
+def test_the_port_of_the_packages_desk_is_no_other_lines(set_up: SetUp) -> None:
+    """That desk may have no set-up file."""
+    set_up("L2", line="L2", db="/srv/desk")
+    with pytest.raises(places.NotSetUp, match="L2 names no port"):
+        places.lines()

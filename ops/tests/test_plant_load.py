@@ -9,7 +9,6 @@ from typing import Iterator
 import pytest
 from lab import databases, messages, plants
 from lab.databases import SQL, Database
-from lab.line import NewLine
 from lab.plants import WorkedLine, missing, parts, pieces
 from lab.tools import tool
 from lab.waits import wait_for
@@ -76,7 +75,7 @@ class Wanted:
 @pytest.fixture(scope="module")
 def wanted(line: WorkedLine, server: postgres.Server) -> Wanted:
     undisturbed = databases.create(server, "undisturbed")
-    undisturbed.load(line.copies)
+    undisturbed.load(line.kept()[-1])
     return Wanted(undisturbed)
 
 
@@ -89,28 +88,29 @@ def expect_three(database: Database) -> None:
 
 # what is altered, and what is said of it
 ALTERED = {
-    "a damaged archive": "it is not the file of its checksum",
-    "a missing archive": "was begun",
-    "an archive with a log": "-wal is next to it",
-    "a damaged desk": "it is not the file of its checksum",
+    "a damaged archive": "was changed, or has another file's name",
+    "a missing archive": "is missing, from which",
+    "an archive with a log": "-wal next to it",
+    "a damaged desk": "was changed, or has another file's name",
 }
 
 
 def damage(file: pathlib.Path) -> None:
     content = bytearray(file.read_bytes())
     content[len(content) // 2] ^= 1
+    file.unlink()
     file.write_bytes(content)
 
 
 def altered(line: WorkedLine, folder: pathlib.Path, name: str) -> pathlib.Path:
-    """A copy of a line's newest copy in which something is changed."""
-    copy = folder / "altered/2026-03-09T060000Z"
-    shutil.copytree(line.newest(), copy)
-    archive = copy / "archive" / line.archived[0].name
+    """A mirror of a line in which something is changed."""
+    copy = folder / "altered/L1"
+    shutil.copytree(line.kept()[-1], copy)
+    archive = copy / "sealed" / line.archived[0].name
     if name == "a damaged archive":
         damage(archive)
     elif name == "a damaged desk":
-        damage(copy / "desk")
+        damage(copy / "sealed" / line.newest().name)
     elif name == "a missing archive":
         archive.unlink()
     else:
@@ -124,69 +124,45 @@ def test_a_file_that_is_refused_is_missing_until_it_comes_whole(
 ) -> None:
     file = RUNNING if name == "a damaged desk" else line.archived[0].name
     said = database.refuse(ALTERED[name], altered(line, folder, name))
-    digits = "/desk" if file == RUNNING else file.rpartition("-")[2]  # which say what is missing
+    digits = line.newest().stem if file == RUNNING else file.partition(".")[0]
     assert digits in said
     assert said.count(" pieces\n") == 2  # of the others
     for query in ("pieces", "recall"):
         told = database.query(query, 3, lot=wanted.lot)
         assert told.rows and re.search(f"without .*({file}|{digits})", told.said)
-    database.load(line.copies)
+    database.load(line.kept()[-1])
     expect_three(database)
-
-
-def test_a_gap_in_a_chain_is_missing_until_it_is_filled(
-    line: WorkedLine, database: Database, wanted: Wanted, folder: pathlib.Path
-) -> None:
-    """A catalogue without the archive from which another one was begun."""
-    here = shutil.copytree(line.archive, folder / "gap")
-    table = here / "catalogue.csv"
-    first, second = line.archived
-    (here / first.name).unlink()
-    database.refuse(f"from which {second.name} was begun", table)
-    assert "no archive has the checksum" in database.query("pieces", 3, lot=wanted.lot).said
-    shutil.copytree(line.archive, here, dirs_exist_ok=True)
-    database.load(table)
-    assert missing(database) == ["newer pieces"]  # of the running desk
-    database.change("UPDATE line SET oldest = NULL")
-    assert missing(database) == []
 
 
 # --- Lines
 
 
 def test_a_desk_is_not_loaded_as_another_lines(line: WorkedLine, database: Database) -> None:
-    copy = line.kept()[0]
-    database.refuse("name it by --line", copy)
-    database.load("--line", line.name, copy)
+    database.load(line.kept()[0])
     its = "it is the desk of the line L1, whose running desk is loaded"
-    database.refuse(its, "--line", "L3", copy)
-    its = "its archives are of L1, and its desk is to be that of L2"
-    database.refuse(its, "--line", "L2", line.copies)
+    database.refuse(its, "--line", "L3", line.kept()[0])
 
 
 def test_a_desk_stays_until_its_archive_is_whole(
     line: WorkedLine, database: Database, folder: pathlib.Path
 ) -> None:
-    database.load("--line", line.name, line.kept()[0])
+    database.load(line.kept()[0])
     before = [(row[0], *row[2:]) for row in pieces(database)]
     database.load(altered(line, folder, "a damaged archive"), status=1)
     of_desks = [row for row in pieces(database) if row[1].startswith("desk of ")]
     assert [(row[0], *row[2:]) for row in of_desks] == before
-    database.load(
-        line.catalogue, status=1
-    )  # without the running desk nobody knows what is in doubt
-    database.load(line.copies)
+    database.load(line.kept()[-1])
     expect_three(database)
 
 
 def test_a_line_that_was_mistyped_is_dropped(line: WorkedLine, database: Database) -> None:
     database.load("--line", "L11", line.kept()[0])
-    database.refuse("whose running desk is loaded, and not of L1", line.copies)
+    database.refuse("whose running desk is loaded, and not of L1", line.kept()[-1])
     database.drop(line="L11", name=RUNNING)
     its = database.rows("SELECT name FROM missing WHERE line = 'L11' ORDER BY 1")
     assert its == [("all of it",), ("newer pieces",)]
     database.change("DELETE FROM line WHERE name = 'L11'")
-    database.load(line.copies)
+    database.load(line.kept()[-1])
     expect_three(database)
 
 
@@ -210,7 +186,7 @@ def test_what_is_expected_of_lines(
     line: WorkedLine, database: Database, wanted: Wanted, name: str
 ) -> None:
     change, back, said = EXPECTED[name]
-    database.load(line.copies)
+    database.load(line.kept()[-1])
     database.query("pieces", lot=wanted.lot)
     database.change(change)
     assert said in database.query("pieces", 3, lot=wanted.lot).said
@@ -218,38 +194,24 @@ def test_what_is_expected_of_lines(
     database.query("pieces", lot=wanted.lot)
 
 
-def test_a_line_of_the_set_up_without_a_copy_is_missing(
+def test_lines_of_the_set_up_are_loaded_and_one_without_a_sealed_file_is_missing(
     line: WorkedLine, database: Database, folder: pathlib.Path
 ) -> None:
-    for name, copies, port in (("L1", line.copies, 8081), ("L8", folder, 8082)):
-        text = f"line = {name}\ndb = {folder}/{name}\ncopies = {copies}\nport = {port}\n"
+    for name, db, port in (("L1", line.file, 8081), ("L8", folder / "L8/desk", 8082)):
+        text = f"line = {name}\ndb = {db}\nport = {port}\n"
         (folder / f"{name}.conf").write_text(text)
-    database.load(status=1, TRACEDESK_SET_UP=str(folder))
-    assert ("L8",) in database.rows("SELECT line FROM missing")
+    said = database.load(status=1, TRACEDESK_SET_UP=str(folder))
+    assert said.count(" pieces\n") == 3
+    assert {row for row in database.rows("SELECT line FROM missing")} == {("L8",)}
 
 
 def test_a_copy_of_other_days_is_stale(line: WorkedLine, server: postgres.Server) -> None:
     """If nobody says how old it may be."""
     made = databases.create(server, "stale", schema="")
     made.psql("-f", SQL / "schema.sql")
-    made.load(line.copies)
+    made.load(line.kept()[-1])
     said = made.query("pieces", 3, lot="any").said
-    assert "without L1 newer pieces: the newest copy of its running desk is of 2026-03-" in said
-
-
-def test_each_line_has_the_copies_of_its_own_in_a_folder_of_several(
-    new_line: NewLine, database: Database, folder: pathlib.Path
-) -> None:
-    lines = [new_line(folder / name, name) for name in ("L1", "L2")]
-    for made in lines:
-        made.copies = folder / "copies"
-        made.backup("--line", made.name).expect()
-        text = f"line = {made.name}\ndb = {made.file}\ncopies = {made.copies}\n"
-        text += f"port = {made.port}\n"
-        (folder / f"{made.name}.conf").write_text(text)
-    for _ in range(2):
-        database.load(TRACEDESK_SET_UP=str(folder))
-    assert [row[:2] for row in plants.files(database)] == [("L1", RUNNING), ("L2", RUNNING)]
+    assert "without L1 newer pieces: the newest copy of its running desk is of 2026-03" in said
 
 
 @pytest.mark.whole
@@ -259,13 +221,13 @@ def test_tables_that_were_put_back_to_an_older_state_are_named(line: WorkedLine)
     """
     with databases.server() as server:
         made = databases.create(server, "put_back")
-        made.load("--line", line.name, line.kept()[0])
+        made.load(line.kept()[0])
         ((lot,),) = made.rows(MANY)
         made.query("recall", lot=lot)
         server.stop()
         server.copy("data", "dump")
         server.start()
-        made.load(line.copies)
+        made.load(line.kept()[-1])
         newer = made.query("recall", lot=lot).rows
         server.stop()
         server.copy("dump", "data")
@@ -274,7 +236,7 @@ def test_tables_that_were_put_back_to_an_older_state_are_named(line: WorkedLine)
             assert (
                 "in an older state than at the last question" in made.query(name, 3, lot=lot).said
             )
-        made.load(line.copies)
+        made.load(line.kept()[-1])
         made.query("recall", 3, lot=lot)
         pathlib.Path(made.environment["TRACEDESK_SEEN"]).unlink()
         assert made.query("recall", lot=lot).rows == newer
@@ -286,21 +248,21 @@ def test_tables_that_were_put_back_to_an_older_state_are_named(line: WorkedLine)
 def test_a_file_that_is_taken_out_is_missing_until_it_is_loaded_again(
     line: WorkedLine, database: Database
 ) -> None:
-    database.load(line.copies)
+    database.load(line.kept()[-1])
     name = line.archived[0].name
     database.drop(line="L1", name=name)
-    link = f"archive {name.rpartition('-')[2]}"  # the next one was begun from it
+    link = f"archive {name.partition('.')[0]}"  # the next one was begun from it
     assert (parts(database), set(missing(database))) == (2, {name, link})
-    database.load(line.copies)
+    database.load(line.kept()[-1])
     expect_three(database)
 
 
 def test_what_is_dropped_by_a_day_is_named_and_not_loaded_again(
     line: WorkedLine, database: Database, wanted: Wanted
 ) -> None:
-    database.load(line.copies)
+    database.load(line.kept()[-1])
     database.drop(before="2036-01-01")
-    said = database.load(line.copies)
+    said = database.load(line.kept()[-1])
     assert f"{line.archived[0].name}: dropped, and not loaded again" in said
     told = database.query("pieces", 3, lot=wanted.lot)
     assert "without 2 files up to" in told.said
@@ -312,10 +274,10 @@ def test_a_file_that_is_taken_out_amid_a_recall_is_an_error(
     line: WorkedLine, database: Database, wanted: Wanted, folder: pathlib.Path, change: str
 ) -> None:
     if change == "a load":
-        database.load("--line", line.name, line.kept()[0])
-        command = f"{tool('plant-load')} {line.copies}"
+        database.load(line.kept()[0])
+        command = f"{tool('plant-load')} {line.kept()[-1]}"
     else:
-        database.load(line.copies)
+        database.load(line.kept()[-1])
         command = f"psql -X -q -v before=2036-01-01 -f {SQL}/drop.sql"
     (folder / "amid.sql").write_text(
         "BEGIN ISOLATION LEVEL REPEATABLE READ READ ONLY; SELECT FROM plant.file;\n"
@@ -342,7 +304,7 @@ STEPS = {  # of a load, by the number of whole files behind it
 
 def kill(line: WorkedLine, database: Database, step: str) -> None:
     """Kills a load after a step, and waits until its session has ended."""
-    database.load(line.copies, status=-signal.SIGKILL, TRACEDESK_KILL_AFTER=step)
+    database.load(line.kept()[-1], status=-signal.SIGKILL, TRACEDESK_KILL_AFTER=step)
     wait_for("its session has ended", lambda: database.rows(OTHERS) == [("0",)])
 
 
@@ -355,7 +317,7 @@ def test_a_load_that_is_killed_leaves_whole_files_alone(
     assert wanted.expect_files(database) == STEPS[step]
     if database.rows("SELECT FROM reel LIMIT 1"):
         database.query("pieces", 3, lot=wanted.lot)
-    database.load(line.copies)
+    database.load(line.kept()[-1])
     wanted.expect_all(database)
 
 
@@ -367,7 +329,7 @@ def test_loads_that_are_killed_at_each_file_end_whole(
         for step in ("rows of placement", "committed"):
             kill(line, database, step)
             assert wanted.expect_files(database) == number + STEPS[step]
-    database.load(line.copies)
+    database.load(line.kept()[-1])
     wanted.expect_all(database)
 
 
@@ -387,13 +349,13 @@ def test_a_full_disk_leaves_whole_files_alone(
         its.psql("-c", f"CREATE TABLESPACE small LOCATION '{disk}'")
         small = databases.create(server, "small", more="TABLESPACE small")
         resize(disk, f"{shutil.disk_usage(disk).used // 1024 + room}k")
-        said = small.load(line.copies, status=1)
+        said = small.load(line.kept()[-1], status=1)
         resize(disk, "200m")  # on a full one a new session may not begin
         # amid a table, or as a session begins
         full = "Check free disk space|could not write init file|No space left on device"
         assert re.search(full, said)
         assert wanted.expect_files(small) < len(wanted.files)
-        small.load(line.copies)
+        small.load(line.kept()[-1])
         wanted.expect_all(small)
         its.psql("-c", "DROP DATABASE small")
         its.psql("-c", "DROP TABLESPACE small")

@@ -1,7 +1,6 @@
 """Loads of lines after a restore, after refused work, and after a reel was reported late."""
 import pathlib
 import re
-import shutil
 from typing import Any, Iterator
 
 import pytest
@@ -12,14 +11,13 @@ from lab.plants import WorkedLine, expect_whole, missing, pieces
 from lab.recalls import recalled
 from lab.records import a_record, refused
 from lab.tools import Word
-from lab.world import RUNNING
 from tracedesk_dev import shift
 from tracedesk_ops import untraced
 
 pytestmark = [pytest.mark.xdist_group("plant_load_lines")]
 
 SEED, BOARDS = 9, 12
-OLDER = "2026-03-02T060000Z"  # the copy that is loaded before the desk goes back
+OLDER = "2026-03-02T060000Z"  # the day of the file that is loaded before the desk goes back
 SAYS = r"doubtful piece of D1: (\w+) of board B1, \S+, may not be of K1"
 
 
@@ -45,7 +43,7 @@ class Restored:
     """A line that went back to its oldest copy, and gets its messages in another order."""
 
     def __init__(self, line: WorkedLine, database: Database) -> None:
-        self.line, self.database, self.others = line, database, 0
+        self.line, self.database, self.others, self.first = line, database, 0, ""
         parts = messages.parts_of(shift.Shift(SEED, BOARDS, "R1").lines, 3)
         self.sent = [part.splitlines() for part in parts]
 
@@ -53,8 +51,8 @@ class Restored:
         self.line.post(said)
         return self.line.copy(status)
 
-    def go_back(self, status: int = 0) -> None:
-        self.line.backup("--restore", self.line.kept()[0].name).expect(status)
+    def go_back(self, status: int = 4) -> None:
+        self.line.restore(self.first).expect(status)
 
     def other(self) -> bytes:
         """A message that the desk had not before."""
@@ -62,10 +60,10 @@ class Restored:
         return messages.part(f"other-{self.others}")
 
     def load(self, status: int = 0) -> str:
-        return self.database.load("--line", "R1", self.line.copies, status=status)
+        return self.database.load(self.line.kept()[-1], status=status)
 
-    def refuse(self, said: str, copies: pathlib.Path) -> None:
-        self.database.refuse(said, "--line", "R1", copies)
+    def refuse(self, said: str) -> None:
+        self.database.refuse(said, self.line.kept()[-1])
 
     def roll_over(self) -> None:
         self.line.rollover("--with-board-in-work").expect()
@@ -78,6 +76,7 @@ def restored(program: pathlib.Path, folder: pathlib.Path, database: Database) ->
     line.serve()
     its = Restored(line, database)
     its.go_on(*its.sent[0])
+    its.first = line.newest().name
     its.go_on(*its.sent[1])
     its.load()
     yield its
@@ -93,62 +92,21 @@ def test_the_same_messages_behind_another_one_are_counted_once(restored: Restore
     expect_whole(restored.database)
 
 
-def give_way(its: Restored) -> pathlib.Path:
-    """The desk goes back to half of the second part. Returns the copy of that, which a person has
-    to name."""
-    its.go_back()
-    newest = its.go_on(its.other(), *its.sent[1][: len(its.sent[1]) // 2], status=4)
-    its.refuse(f"the copy of {OLDER} gave way", newest)
-    return newest
-
-
-def test_a_copy_that_gave_way_is_missing_until_it_is_dropped(restored: Restored) -> None:
-    newest = give_way(restored)
-    database, line = restored.database, restored.line
-    database.load("--line", "R1", newest)
-    assert missing(database) == [f"desk of {OLDER}"]
+def test_a_file_that_gave_way_is_missing_until_it_is_dropped(restored: Restored) -> None:
+    """The desk goes back to half of the second part, and gets the rest later."""
+    database, line, second = restored.database, restored.line, restored.sent[1]
+    restored.go_back()
+    restored.go_on(restored.other(), *second[: len(second) // 2], status=4)
+    restored.refuse(f"the desk as of {OLDER} gave way")
+    assert f"desk of {OLDER}" in missing(database)
     expect_whole(database, 3)
     before = pieces(database)
-    restored.refuse("which is loaded, and lacks", line.copies / OLDER)
+    database.refuse("which is loaded, and lacks", line.kept()[1])
     assert pieces(database) == before
-    database.drop(line="R1", name=f"desk of {OLDER}")
-    line.post(restored.sent[1][len(restored.sent[1]) // 2 :])
-    restored.roll_over()
-    line.copy()
-    database.load(line.copies)
-    expect_whole(database)
-
-
-def test_copies_of_a_desk_that_was_set_back_are_a_fork(restored: Restored) -> None:
-    """Which of them is the line's, nobody says but a person."""
-    restored.go_back()
-    restored.go_on(restored.other(), status=4)
-    restored.refuse("lacks: the desk was set back", restored.line.copies)
-    assert str(restored.line.copies) in missing(restored.database)
-
-
-def test_a_desk_from_before_its_archive_is_missing_until_that_is_dropped(
-    restored: Restored,
-) -> None:
-    database, line = restored.database, restored.line
-    restored.roll_over()
+    line.post(second[len(second) // 2 :])
     line.copy()
     restored.load()
-    restored.go_back(4)
-    shutil.rmtree(line.archive / "aside")
-    newest = restored.go_on(restored.other(), *restored.sent[1], *restored.sent[2][:40])
-    restored.refuse("are in R1-", newest)
-    assert RUNNING in missing(database)
-    expect_whole(database, 3)
-    restored.roll_over()
-    newest = restored.go_on(restored.other())
-    database.load("--line", "R1", newest, status=1)
-    assert line.archives()[0].file in missing(database)
-    ((archive, *_), *_) = database.rows("SELECT name FROM file WHERE taken = ''")
-    database.drop(line="R1", name=archive)
-    database.load("--line", "R1", newest)
-    for _ in range(2):  # the desk that had gone on from that archive, and then that it is missing
-        database.drop(line="R1", name="desk of 2026-03-03T060000Z")
+    database.drop(line="R1", name=f"desk of {OLDER}")
     assert missing(database) == []
     expect_whole(database)
 
@@ -172,7 +130,7 @@ class Doubted:
 
     def load(self) -> None:
         self.line.copy()
-        self.database.load("--line", "D1", self.line.copies)
+        self.database.load(self.line.kept()[-1])
 
     def put(self, record: tuple[str, bytes]) -> str:
         """Puts a record into the line's inbox; its id."""
@@ -206,7 +164,7 @@ def doubted(program: pathlib.Path, folder: pathlib.Path, database: Database) -> 
         its.on_machine(15, "MaterialsLoaded", Slot="1", Reel="K2"),
         its.on_machine(21, "MaterialsInstalled", Board="B1", Designators=["R3"]),
     )
-    for name in ("untraced", "archive"):
+    for name in ("untraced", "sealed"):
         (line.folder / name).mkdir(exist_ok=True)
     its.load()
     yield its
@@ -236,22 +194,10 @@ def test_untraced_work_is_named_until_it_is_decided(doubted: Doubted) -> None:
     doubted.load()
     said = database.query("pieces", 3, lot="L1").said
     assert record not in said and "in the table plant.untraced: 1" in said
-    for copy in (line.newest(), line.kept()[1]):
-        database.load("--line", "D1", copy)
+    for copy in (line.kept()[-1], line.kept()[1]):
+        database.load(copy)
         query = "SELECT became, decided_by, reason FROM untraced"
         assert database.rows(query) == [("scrapped", "A. Person", "as seen")]
-
-
-def test_a_copy_without_a_record_is_refused(doubted: Doubted, folder: pathlib.Path) -> None:
-    name, text = a_record(1)
-    doubted.put((name, text))
-    doubted.line.copy()
-    copy = shutil.copytree(doubted.line.newest(), folder / "without/2026-03-09T060000Z")
-    (copy / f"untraced/{name}.json").unlink()
-    said = doubted.database.refuse("can't be read", "--line", "D1", copy)
-    assert f"untraced/{name}.json" in said
-    doubted.database.drop(line="", name=copy)
-    doubted.load()
 
 
 @pytest.mark.parametrize(

@@ -1,8 +1,8 @@
 """The commands of docs/plant.md, as they are written, on a plant of three lines.
 
 Lines L1 and L2 work on one day, and L3 on the next, also on the first boards of L1. In the middle
-of its shift each is rolled over, and it is copied at its end. The page's blocks are run in a folder
-that has the copies, by the rules of dev/try-pages.
+of its shift each is rolled over, and it is sealed at its end. The page's blocks are run in a folder
+that has a mirror, by the rules of dev/try-pages.
 """
 import dataclasses
 import os
@@ -55,19 +55,20 @@ def shifts() -> dict[str, shift.Shift]:
 
 
 def make_lines(program: pathlib.Path, room: pathlib.Path) -> Iterator[WorkedLine]:
-    """The three lines. The folder `backups` has their copies, and a damaged one of L1."""
-    (room / "backups").mkdir()
+    """The three lines. The folder `mirror` has their sealed files, and damaged ones of L1."""
+    (room / "mirror").mkdir()
     for name, its in shifts().items():
         line = WorkedLine(program, room / name, name)
         yield line
         line.serve()
         line.work(messages.parts_of(its.lines, 2, lambda message: message))
-        (room / "backups" / name).symlink_to(line.copies)
+        shutil.copytree(line.kept()[-1], room / "mirror" / name, copy_function=shutil.copy2)
         if name == "L1":
-            damaged = room / "backups/damaged/2026-03-09T060000Z"
-            copy = shutil.copytree(line.newest(), damaged)
-            (archive,) = (copy / "archive").glob("L1-*")
-            archive.write_bytes(archive.read_bytes()[:-1] + b"x")
+            copy = shutil.copytree(line.kept()[-1], room / "mirror/damaged/L1")
+            archive = copy / "sealed" / line.archived[0].name
+            content = archive.read_bytes()[:-1] + b"x"
+            archive.unlink()
+            archive.write_bytes(content)
 
 
 def run_page(room: pathlib.Path, server: postgres.Server) -> Iterator[Printed]:

@@ -15,7 +15,8 @@ from lab import ROOT
 from lab.desk import Desk
 from lab.line import Line, NewLine
 from lab.messages import FIRST_LINE
-from lab.tools import Ended, Word, run, run_changed, run_tool, tool
+from lab.tools import Ended, Word, run, run_changed, tool
+from tracedesk_dev import begun
 from tracedesk_ops import catalogue, copies, doubtful, plant
 
 TARGET = "/slots?machine=M"
@@ -52,14 +53,12 @@ def test_log_is_read_and_stays_as_it_is(served: Desk, how: signal.Signals, by: s
         named.symlink_to(served.file)
     before = served.bytes()
     assert ask(named, TARGET).out == SLOTS
-    assert run_tool("begin", named).out.count("\n") == LINES_OF_BEGIN
+    assert len(begun.messages_of(named)) == LINES_OF_BEGIN
     assert served.bytes() == before
 
 
-@pytest.mark.parametrize("reader", ["ask", "begin"])
-def test_file_of_a_running_desk_is_refused(served: Desk, reader: str) -> None:
-    done = ask(served.file, TARGET) if reader == "ask" else run_tool("begin", served.file)
-    done.expect(1, "a run has it open")
+def test_file_of_a_running_desk_is_refused(served: Desk) -> None:
+    done = ask(served.file, TARGET).expect(1, "a run has it open")
     assert not done.out
     (again,) = served.post(FIRST_LINE[:1])
     assert again == {"Answer": "Accepted", "Number": 1, "UniqueID": "u1"}
@@ -130,32 +129,29 @@ def test_names_in_another_locale(new_line: NewLine, folder: pathlib.Path) -> Non
     env = {"LC_ALL": "C", "PYTHONUTF8": "0", "PYTHONCOERCECLOCALE": "0"}
     line = new_line(folder / "Lïne")
     line.rollover().expect()
-    line.backup().expect()
+    line.more("A")
+    line.seal().expect()
     written: list[Word] = ["--evidence", folder / "evïdence", "--html", folder / "L1.html"]
     run([tool("recall"), "lot", "L1", *line.recall_words(), *written], env=env).expect()
-    line.backup("--check", env=env).expect()
-    run_tool("check", line.newest() / "desk", env=env).expect()
+    line.call(line.ops("check"), env=env).expect()
 
 
-@pytest.mark.parametrize("name", ["begin", "move", "backup"])
-def test_unexpected_failure_has_a_status_of_its_own(line: Line, name: str) -> None:
+def test_unexpected_failure_has_a_status_of_its_own(line: Line) -> None:
     line.end()
     other = line.folder / "other"
     shutil.copyfile(line.file, other)
-    words: dict[str, list[Word]] = {
-        "begin": [line.file],
-        "move": ["K1", "--from", line.file, "--to", other],
-        "backup": [*line.service(), "--age"],
-    }
-    change = "from tracedesk_ops import backups, carry; carry.Archive = backups.kept_in = None"
-    run_changed(name, words[name], change).expect(9, "nobody foresaw")
+    change = "from tracedesk_ops import carry; carry.Archive = None"
+    run_changed("move", ["K1", "--from", line.file, "--to", other], change).expect(9, "foresaw")
 
 
 def test_what_cannot_be_printed_is_told(line: Line) -> None:
     line.end()
     with open("/dev/full", "w") as full:
-        done = run([tool("begin"), line.file], out=full)
-    assert done.status == 1 and "standard output" in done.err and "Traceback" not in done.err
+        done = run(line.ops("restore", "--dry-run"), out=full)
+        assert done.status == 3 and "Traceback" not in done.err
+        line.call(line.ops("seal")).expect()
+        done = run(line.ops("restore", "--dry-run"), out=full)
+    assert done.status == 3 and "standard output" in done.err and "Traceback" not in done.err
 
 
 def test_one_archive_is_open_at_a_time(
@@ -163,12 +159,12 @@ def test_one_archive_is_open_at_a_time(
 ) -> None:
     """A line has hundreds of them, and a process may have few files open."""
     desk.feed(FIRST_LINE)
-    archives = folder / "archive"
-    archives.mkdir()
+    archives = folder / "L1/sealed"
+    archives.mkdir(parents=True)
     rows = []
     for number in range(4):
         file = shutil.copy(desk.file, archives / f"L1-{number}")
-        rows.append(catalogue.Archive(file.name, "", "L1", 0, 0, 1, 0))
+        rows.append(catalogue.Archive(file.name, "", "L1", 0, 0, 1))
     counts, opened = [0], catalogue.opened
 
     @contextlib.contextmanager
@@ -179,5 +175,5 @@ def test_one_archive_is_open_at_a_time(
         counts.append(counts[-1] - 1)
 
     monkeypatch.setattr(catalogue, "opened", counted)
-    assert doubtful.look(archives / catalogue.FILE_NAME, rows).faults == []
+    assert doubtful.look(folder / "L1", rows).faults == []
     assert max(counts) == 1 and len(counts) > 2 * len(rows)

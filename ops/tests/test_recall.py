@@ -8,13 +8,11 @@ from typing import Any, Callable
 import pytest
 from lab.recalls import Asking, lot_of, recall, recalled, state_of
 from lab.world import World
-from tracedesk_ops import firstlook, store
+from tracedesk_ops import firstlook
 
 pytestmark = [pytest.mark.xdist_group("recall")]
 
-CHANGED = (
-    "it was changed meanwhile, or what is around it, as by a roll-over or a restore: ask again"
-)
+CHANGED = "its files were changed meanwhile, as by a roll-over or a restore: ask again"
 ALL = [pytest.param(24, id="some"), pytest.param(1, id="all", marks=pytest.mark.whole)]
 # a tracedesk-chain that ends otherwise: how, and what a recall says then
 ENDS = {
@@ -42,12 +40,11 @@ def test_pieces_and_what_is_left_are_those_of_the_files(
         assert sum(threads.map(lambda name: asking.expect_right(kind, name), names))
 
 
-@pytest.mark.parametrize(
-    ("column", "value"), [("file", "L1-1; L1-2"), ("line", "L1; L2")], ids=["files", "lines"]
-)
-def test_a_board_lies_in_two(asking: Asking, column: str, value: str) -> None:
+@pytest.mark.parametrize("column", ["file", "line"])
+def test_a_board_lies_in_two(asking: Asking, world: World, column: str) -> None:
+    names = {"file": [its.name for its in world.first.archived[:2]], "line": ["L1", "L2"]}[column]
     boards = (asking.tables("board", name)["boards"][0] for name in asking.names("board"))
-    assert any(value in board[column] for board in boards)
+    assert any({*names} <= {*board[column].split("; ")} for board in boards)
 
 
 @pytest.mark.parametrize("end", ENDS)
@@ -100,17 +97,16 @@ def test_nothing_changes_meanwhile(faults: Callable[..., list[str]]) -> None:
 def test_a_desk_that_is_put_aside_meanwhile_is_named(
     faults: Callable[..., list[str]], world: World
 ) -> None:
-    archive = world.first.archive
-    aside = archive / "aside/2026-03-02T060000Z"
+    lost = world.first.folder / "lost"
 
     def put_aside() -> None:
-        aside.mkdir(parents=True, exist_ok=True)
-        (aside / "desk").touch()
+        lost.mkdir(exist_ok=True)
+        (lost / f"{'0' * 24}.desk").touch()
 
     try:
-        assert faults(put_aside) == [f"{archive}: {CHANGED}"]
+        assert faults(put_aside) == [f"{world.first.folder}: {CHANGED}"]
     finally:
-        shutil.rmtree(aside.parent)
+        shutil.rmtree(lost)
 
 
 def test_an_archive_that_changes_meanwhile_is_named(
@@ -129,11 +125,3 @@ def test_an_archive_that_changes_meanwhile_is_named(
         assert faults() == [f"L1: {file}: it was changed while it was asked: ask again"]
     finally:
         os.utime(file, ns=(kept.st_atime_ns, kept.st_mtime_ns))
-
-
-def test_a_log_that_is_gone_by_now_is_no_database(folder: pathlib.Path) -> None:
-    class Gone(type(folder)):  # type: ignore[misc]  # the class of paths depends on the system
-        def is_file(self) -> bool:
-            return True
-
-    assert not store.is_database(Gone(folder / "gone"))

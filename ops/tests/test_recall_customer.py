@@ -58,6 +58,11 @@ def test_a_serial_that_nobody_knows_is_named(line: Line, folder: pathlib.Path) -
     assert rows[-1]["board"] == "SN-9" and rows[-1]["holds"] == "not known"
 
 
+def test_no_serial_holds_none_if_not_all_were_asked(line: Line, folder: pathlib.Path) -> None:
+    done = recall(line, folder, SHIPPED, "--line", "L2", "http://127.0.0.1:9", folder)
+    done.expect(3, "Of your 2 serials 1 hold a piece, 0 hold none, 1 are not known.")
+
+
 def test_a_customer_without_a_board_has_no_evidence(line: Line, folder: pathlib.Path) -> None:
     recall(line, folder, "board,customer,date\nSN-2,Customer B,2026-03-09\n").expect(2)
     assert not (folder / "to").exists()

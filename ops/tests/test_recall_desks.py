@@ -117,7 +117,7 @@ def in_front(
 def expect_not_asked(world: World, url: str, said: str = "") -> None:
     """The archives are asked, the desk isn't, and what is left is as the last archive says."""
     line, lot = world.first, lot_of(world)
-    words: list[Word] = ["lot", lot, "--line", "L1", url, line.catalogue]
+    words: list[Word] = ["lot", lot, "--line", "L1", url, line.folder]
     recall(*words).expect(3, f"NOT ASKED: L1: {url}", said)
     asked = recalled(*words, "--show", "asked", status=3)
     wanted = [*((file.name, "yes") for file in line.archived), (RUNNING, "no")]
@@ -151,7 +151,7 @@ def test_a_desk_behind_tls_and_a_password(world: World, folder: pathlib.Path) ->
     lot, line = lot_of(world), world.first
     certificate: list[Word] = ["--cacert", folder / "crt"]
     with in_front(world, Front, trust) as place:
-        words: list[Word] = ["lot", lot, "--line", "L1", f"https://{place}", line.catalogue]
+        words: list[Word] = ["lot", lot, "--line", "L1", f"https://{place}", line.folder]
         behind = recalled(*words, *certificate, "--netrc", folder / "m1")
         assert behind == recalled("lot", lot, *line.recall_words())
         log_ins = {"stranger": "status 401", "office": "ask as a user who may send"}

@@ -9,41 +9,42 @@ from lab.line import Line, table
 from lab.recalls import copied, files_of, lot_of, recall, recalled
 from lab.tools import Word
 from lab.world import ArchivedLine, World
+from tracedesk_ops import sealed
 
 pytestmark = [pytest.mark.xdist_group("recall_faults")]
 
-FIRST, GONE = {"L1-1"}, "from which L1-2 was begun"
 Change = Callable[[pathlib.Path], object]
 
 
 # --- An archive is altered
 
 
-def another_byte(folder: pathlib.Path) -> None:
-    content = bytearray((folder / "L1-1").read_bytes())
+def another_byte(file: pathlib.Path) -> None:
+    content = bytearray(file.read_bytes())
     content[len(content) // 2] ^= 1
-    (folder / "L1-1").write_bytes(content)
+    rewritten(file, bytes(content))
 
 
-def cut_short(folder: pathlib.Path) -> None:
-    (folder / "L1-1").write_bytes((folder / "L1-1").read_bytes()[:-4096])
+def cut_short(file: pathlib.Path) -> None:
+    rewritten(file, file.read_bytes()[:-4096])
 
 
-def no_database(folder: pathlib.Path) -> None:
-    (folder / "L1-1").write_text("no database")
+def rewritten(file: pathlib.Path, content: bytes) -> None:
+    file.unlink()
+    file.write_bytes(content)
 
 
-def with_a_log(folder: pathlib.Path) -> None:
-    (folder / "L1-1-wal").write_bytes(bytes(5_000))
+def with_a_log(file: pathlib.Path) -> None:
+    file.with_name(f"{file.name}-wal").write_bytes(bytes(5_000))
 
 
 # what is altered: how, and what is said
 FAULTS: dict[str, tuple[Change, str]] = {
-    "another byte": (another_byte, GONE),
-    "cut short": (cut_short, GONE),
-    "missing": (lambda folder: (folder / "L1-1").unlink(), GONE),
-    "a log": (with_a_log, "L1-1-wal is next to it"),
-    "no database": (no_database, GONE),
+    "another byte": (another_byte, "was changed, or has another file's name"),
+    "cut short": (cut_short, "was changed, or has another file's name"),
+    "missing": (lambda file: file.unlink(), "is missing, from which"),
+    "a log": (with_a_log, "can't be read with"),
+    "no database": (lambda file: rewritten(file, b"no database"), "was changed"),
 }
 
 
@@ -52,7 +53,7 @@ def files(world: World) -> set[str]:
     """The files of the first line that have pieces of its lot."""
     words = ["lot", lot_of(world), *world.first.recall_words(), "--show", "pieces"]
     found = files_of(recalled(*words))
-    assert FIRST < found
+    assert world.first.archived[0].name in found
     return found
 
 
@@ -60,41 +61,44 @@ def files(world: World) -> set[str]:
 def test_what_is_altered_is_named(
     world: World, folder: pathlib.Path, files: set[str], name: str
 ) -> None:
-    """All else is asked, and of a damaged archive what can be read."""
+    """All else is asked."""
     change, said = FAULTS[name]
-    words = ["lot", lot_of(world), *copied(world.first, folder / "archive"), "--show", "pieces"]
-    change(folder / "archive")
+    line, first = world.first, world.first.archived[0].name
+    words = ["lot", lot_of(world), *copied(line, folder / "L1"), "--show", "pieces"]
+    link_desk(line, folder / "L1")
+    change(folder / "L1/sealed" / first)
     done = recall(*words).expect(3, "NOT ASKED: ", said, "NOT ALL WERE ASKED")
-    assert files - FIRST <= files_of(table(done.out)) <= files
+    assert files_of(table(done.out)) == files - {first}
 
 
 # --- A gap in the chain
 
-# the archives that are there, and what is said; `o` is the second one before its last commands
+# the archives that are there, and which one is missing; `o` is the second one before its last
+# commands
 GAPS = {
-    "the oldest is missing": ("234", "from which L1-2 was begun"),
-    "one in the middle is missing": ("134", "from which L1-3 was begun"),
-    "the newest is missing": ("123", "from which the desk was begun"),
-    "an older copy of one": ("1o34", "from which L1-3 was begun"),
-    "an idle one is missing": ("124", "from which L1-4 was begun"),
+    "the oldest is missing": ("234", 1),
+    "one in the middle is missing": ("134", 2),
+    "the newest is missing": ("123", 4),
+    "an older copy of one": ("1o34", 2),
+    "an idle one is missing": ("124", 3),
 }
 
 
 def link_desk(line: ArchivedLine, folder: pathlib.Path) -> None:
-    """Puts the running desk's file beside a folder of archives, as far as a recall sees."""
+    """Puts the running desk's file into a folder, as far as a recall sees."""
     for path in line.paths():
         (folder / path.name).symlink_to(path)
 
 
 def archives_of(line: ArchivedLine, folder: pathlib.Path, order: str) -> list[Word]:
-    """A folder of these archives, and the words of a recall over it."""
-    folder.mkdir(parents=True)
-    link_desk(line, folder.parent)
+    """A line's folder with these archives, and the words of a recall over it."""
+    (folder / "sealed").mkdir(parents=True)
+    link_desk(line, folder)
     assert line.older
     for number in order:
         file = line.older if number == "o" else line.archived[int(number) - 1]
-        shutil.copy(file, folder / f"L1-{number.replace('o', '2')}")
-    return ["--line", line.name, line.url, folder / "catalogue.csv"]
+        shutil.copy(file, folder / "sealed" / sealed.name_of(sealed.digits_of(file)))
+    return ["--line", line.name, line.url, folder]
 
 
 @contextlib.contextmanager
@@ -111,26 +115,28 @@ def served_again(line: ArchivedLine, file: pathlib.Path, folder: pathlib.Path) -
 
 @pytest.mark.parametrize("name", GAPS)
 def test_a_gap_in_the_chain_is_named(world: World, folder: pathlib.Path, name: str) -> None:
-    order, said = GAPS[name]
-    words = archives_of(world.first, folder / "archive", order)
-    before = sorted((folder / "archive").iterdir())
+    order, missing = GAPS[name]
+    words = archives_of(world.first, folder / "L1", order)
+    before = sorted((folder / "L1/sealed").iterdir())
+    said = f"{world.first.archived[missing - 1].name} is missing, from which"
     recall("lot", lot_of(world), *words).expect(3, said, "NOT ALL WERE ASKED")
-    assert sorted((folder / "archive").iterdir()) == before
+    assert sorted((folder / "L1/sealed").iterdir()) == before
 
 
 def test_an_older_desk_that_runs_is_named(world: World, folder: pathlib.Path) -> None:
-    words = archives_of(world.first, folder / "archive", "1234")
-    with served_again(world.first, world.first.archived[-1], folder / "older") as url:
+    words = archives_of(world.first, folder / "L1", "1234")
+    last = world.first.archived[-1]
+    with served_again(world.first, last, folder / "older") as url:
         words[2] = url
         done = recall("lot", lot_of(world), *words)
-    done.expect(3, "this desk did not go on from L1-4", "NOT ALL WERE ASKED")
+    done.expect(3, f"this desk did not go on from {last.name}", "NOT ALL WERE ASKED")
 
 
 def test_a_folder_with_a_line_end_in_its_name_has_no_gap(
     world: World, folder: pathlib.Path
 ) -> None:
-    words = archives_of(world.first, folder / "a\nline" / "archive", "1234")
-    recall("lot", lot_of(world), *words).expect(0, "L1-2: differs minute")
+    words = archives_of(world.first, folder / "a\nline" / "L1", "1234")
+    recall("lot", lot_of(world), *words).expect(0, ": differs minute")
 
 
 # --- What is swapped or doubled
@@ -151,30 +157,28 @@ def test_a_desk_by_two_names_is_named(world: World) -> None:
 def test_a_desk_that_was_begun_from_an_archive_wants_one(
     world: World, folder: pathlib.Path
 ) -> None:
-    (folder / "archive").mkdir()
-    words = [*world.first.recall_words()[:3], folder / "archive/catalogue.csv"]
+    words = [*world.first.recall_words()[:3], folder]
     said = "was begun from an archive, and the line has none"
     recall("lot", lot_of(world), *words).expect(3, said)
 
 
-def test_archives_alone_are_asked_if_that_is_said(world: World) -> None:
-    name, _, table = world.first.recall_words()[1:]
-    words = ["lot", lot_of(world), "--line", name, "-", table]
-    recall(*words).expect(3, "say --archives-only")
-    recall(*words, "--archives-only").expect()
+def test_a_line_without_a_desk_is_never_whole(world: World, folder: pathlib.Path) -> None:
+    words = copied(world.first, folder / "L1")
+    words[2] = "-"
+    last = world.first.archived[-1].name
+    said = f"its running desk is not asked, since its URL is `-`: pieces that came after {last}"
+    recall("lot", lot_of(world), *words).expect(3, said)
 
 
-def test_a_newest_archive_that_is_gone_is_named(world: World, folder: pathlib.Path) -> None:
-    table = pathlib.Path(str(copied(world.first, folder / "archive")[-1]))
-    link_desk(world.first, folder)
-    (folder / "archive" / world.first.archived[-1].name).unlink()
-    words = ["lot", lot_of(world), "--line", "L1", "-", str(table), "--archives-only"]
-    recall(*words).expect(3, "from which the desk was begun")
+def test_a_folder_of_two_lines_is_refused(world: World) -> None:
+    one, two = (line.recall_words() for line in world.lines)
+    two[3] = one[3]
+    recall("lot", lot_of(world), *one, *two).expect(2, "have the same folder")
 
 
 def test_an_archive_on_two_lines_is_named(world: World, folder: pathlib.Path) -> None:
     first, second = world.lines
-    words = copied(second, folder / "archive")
-    shutil.copy(first.archived[0], folder / "archive/of L1")
+    words = copied(second, folder / "L2")
+    shutil.copy(first.archived[0], folder / "L2/sealed" / first.archived[0].name)
     done = recall("lot", lot_of(world), *first.recall_words(), *words)
-    done.expect(3, "it is one file, on two lines")
+    done.expect(3, "two histories of this line")

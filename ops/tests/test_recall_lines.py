@@ -9,9 +9,14 @@ from lab.desk import rows_of_archive
 from lab.recalls import Rows, files_of, last_minute, lot_of, recall, recalled
 from lab.tools import Word
 from lab.world import RUNNING, ArchivedLine, World
+from lab.files import opened
 from tracedesk_dev import shift
+from tracedesk_ops import sealed
 
 pytestmark = [pytest.mark.xdist_group("recall_lines")]
+
+LATER = """INSERT INTO accepted SELECT max(number) + 1, 'lost', 'S', 0, max(effective),
+    'PartDefined' || char(9) || 'LOST', '{}' FROM accepted"""
 
 # a lot with few pieces, and a reel of it that is on a machine
 MOUNTED = """SELECT lot, reel, machine FROM mount JOIN reel USING (reel)
@@ -30,10 +35,9 @@ class Young:
         ((self.lot, self.reel, self.machine),) = rows_of_archive(self.line.last, MOUNTED)
         self.table = folder / "lines.csv"
 
-    def recalled(self, show: str, machine: str = "", status: int = 0) -> Rows:
+    def recalled(self, show: str, status: int = 0) -> Rows:
         """What the line's table in a file has of the lot."""
-        row = f"L1,{self.line.url},young/archive/catalogue.csv,{machine}"
-        self.table.write_text(f"line,url,catalogue,machines\n{row}\n")
+        self.table.write_text(f"line,url,folder\nL1,{self.line.url},young\n")
         words = ["lot", self.lot, "--lines", self.table, "--show", show]
         done = recall(*words)
         if not self.line.archived:
@@ -59,8 +63,7 @@ def test_a_line_without_archives_has_its_running_desk(young: Young, has_folder: 
     if not has_folder:
         young.line.archive.rmdir()
     assert files_of(young.recalled("pieces")) == {RUNNING}
-    assert files_of(young.recalled("pieces", young.machine)) == {RUNNING}
-    reels = young.recalled("reels", young.machine)
+    reels = young.recalled("reels")
     assert [row["machine"] for row in reels if row["reel"] == young.reel] == [young.machine]
 
 
@@ -69,8 +72,8 @@ def test_the_same_words_serve_after_the_first_roll_over(young: Young) -> None:
     young.recalled("pieces")
     young.line.archive.mkdir()
     young.roll_over()
-    files = files_of(young.recalled("pieces"))
-    assert "L1-1" in files and files <= {"L1-1", RUNNING}
+    files, archive = files_of(young.recalled("pieces")), young.line.archived[0].name
+    assert archive in files and files <= {archive, RUNNING}
 
 
 def test_a_reel_that_no_archive_names_is_found(young: Young) -> None:
@@ -83,47 +86,21 @@ def test_a_reel_that_no_archive_names_is_found(young: Young) -> None:
     assert [row["remaining"] for row in reels if row["reel"] == "new"] == ["7"]
 
 
-def test_without_the_desks_file_the_stock_has_to_be_looked_at(
+def test_without_the_desks_file_the_newest_archive_says_what_is_left(
     young: Young, folder: pathlib.Path
 ) -> None:
-    """The file alone has the reels that came in since and are in stock."""
     young.roll_over()
-    reels = recalled("lot", young.lot, *young.line.recall_words(), "--show", "reels")
-    named = {reel for (reel,) in rows_of_archive(young.line.archived[0], "SELECT reel FROM reel")}
-    table = shutil.copytree(young.line.archive, folder / "away/archive") / "catalogue.csv"
-    words = ["lot", young.lot, "--line", "L1", young.line.url, table, "--show", "reels"]
-    recall(*words).expect(3, "look in the stock")
-    wanted = [row for row in reels if row["reel"] in named or row["machine"]]
-    got = recalled(*words, status=3)
-    assert [{**row, "as_of": ""} for row in got] == [{**row, "as_of": ""} for row in wanted]
+    away = shutil.copytree(young.line.archive, folder / "away/sealed").parent
+    words = ["lot", young.lot, "--line", "L1", young.line.url, away, "--show", "reels"]
+    recall(*words).expect(3, "the running desk's file is not at hand")
+    left = "SELECT reel FROM reel WHERE lot = ? AND remaining > 0"
+    wanted = {reel for (reel,) in rows_of_archive(young.line.archived[0], left, young.lot)}
+    assert {row["reel"] for row in recalled(*words, status=3)} == wanted
 
 
 def test_a_folder_that_may_not_be_mounted_is_named(young: Young) -> None:
-    table = young.line.folder / "no/archive/catalogue.csv"
-    table.parent.parent.mkdir()
-    done = recall("lot", young.lot, "--line", "L1", young.line.url, table)
+    done = recall("lot", young.lot, "--line", "L1", young.line.url, young.line.folder / "no")
     done.expect(3, "there is no such folder")
-
-
-def test_two_lines_may_share_a_folder(
-    young: Young, program: pathlib.Path, folder: pathlib.Path
-) -> None:
-    """If each desk's file is there; else the reels of one line are missing."""
-    other = ArchivedLine(program, folder / "other", "L2")
-    reel = {"Reel": "of L2", "PartNumber": "P", "Lot": young.lot, "Level": "1", "Quantity": 5}
-    other.feed([messages.part("P"), messages.message("ReelReceived", "r", **reel)])
-    other.serve()
-    second = ["--line", "L2", other.url, young.line.catalogue]
-    words = ["lot", young.lot, *young.line.recall_words(), *second, "--show", "reels"]
-    try:
-        said = f"{young.line.file} is not the running desk's: that doesn't have"
-        recall(*words).expect(3, said)
-        assert {row["line"] for row in recalled(*words, status=3)} == {"L1"}
-        for path in other.paths():
-            (young.line.folder / path.name.replace("desk", "other")).symlink_to(path)
-        recall(*words).expect()
-    finally:
-        other.end()
 
 
 # --- What lies around the folder of a line's archives
@@ -134,11 +111,10 @@ class Around:
 
     def __init__(self, world: World, folder: pathlib.Path) -> None:
         self.line, self.folder, self.lot = world.first, folder / "around", lot_of(world)
-        self.archive = shutil.copytree(world.first.archive, self.folder / "archive")
-        self.table = self.archive / "catalogue.csv"
+        self.archive = shutil.copytree(world.first.archive, self.folder / "sealed")
 
     def words(self) -> list[Word]:
-        return ["lot", self.lot, "--line", "L1", self.line.url, self.table]
+        return ["lot", self.lot, "--line", "L1", self.line.url, self.folder]
 
     def expect(self, status: int, *said: str) -> str:
         return recall(*self.words()).expect(status, *said).said
@@ -182,20 +158,17 @@ def test_a_copy_of_the_desks_file_is_named(around: Around, folder: pathlib.Path)
         copy.end()
 
 
-def test_a_desk_that_a_restore_put_aside_is_named_if_it_has_more(whole: Around) -> None:
+def test_a_desk_that_a_restore_took_off_is_named_if_it_has_more(whole: Around) -> None:
     """One that can't be read may have more."""
-    aside = whole.archive / "aside/2026-03-02T060000Z"
-    aside.mkdir(parents=True)
-    (aside / "desk").write_text("a desk")
-    assert f"{aside}/desk: a restore put it aside" in whole.expect(3)
-    for path in whole.line.paths():
-        shutil.copy(path, aside / path.name.replace(whole.line.file.name, "desk"))
-    assert "a restore put it aside" not in whole.expect(0)
-
-
-def test_pieces_that_are_there_twice_are_named(whole: Around, folder: pathlib.Path) -> None:
-    shutil.copy(whole.line.archived[0], whole.archive / "L1-9")
-    (whole.folder / "desk").unlink()  # else the desk says which archives are its own
-    page = folder / "twice.html"
-    recall(*whole.words(), "--html", page).expect(3, "TWICE: L1: ")
-    assert "PIECES ARE COUNTED TWICE" in page.read_text()
+    lost = whole.folder / "lost"
+    lost.mkdir()
+    taken = lost / f"{'0' * 24}.desk"
+    taken.write_text("a desk")
+    assert f"{taken} was changed" in whole.expect(3)
+    taken.unlink()
+    shutil.copy(whole.line.last, lost / sealed.name_of(sealed.digits_of(whole.line.last)))
+    whole.expect(0)
+    with opened(whole.line.last) as database:
+        database.execute(LATER)
+    shutil.copy(whole.line.last, lost / sealed.name_of(sealed.digits_of(whole.line.last)))
+    whole.expect(3, "1 commands of S are in", "and no file of the chain has them")

@@ -42,7 +42,7 @@ class Site:
         self.queue = Queue(folder / "queue")
         self.queue.folder.mkdir()
         self.lines = folder / "lines.csv"
-        self.lines.write_text(f"line,url,catalogue\nL1,{line.url},{line.catalogue}\n")
+        self.lines.write_text(f"line,url,folder\nL1,{line.url},{line.folder}\n")
         made = importlib.import_module("tracedesk_ops.recallpage.app").make(self.queue.folder)
         self.client = made.test_client()
 
@@ -135,7 +135,7 @@ def test_the_papers_have_the_answer(site: Site) -> None:
 
 
 def test_an_answer_that_is_not_complete_says_why(site: Site) -> None:
-    site.lines.write_text(f"line,url,catalogue\nL1,http://127.0.0.1:9,{site.line.catalogue}\n")
+    site.lines.write_text(f"line,url,folder\nL1,http://127.0.0.1:9,{site.line.folder}\n")
     at = site.asked("lot", "L-3")
     site.worker().work(is_once=True)
     page = site.page(at)
@@ -311,7 +311,7 @@ def test_half_a_question_is_none(site: Site, begins: str) -> None:
 @pytest.mark.parametrize(
     ("text", "wanted"),
     [
-        ("/var/lib/tracedesk/archive/catalogue.csv: it is old", "catalogue.csv: it is old"),
+        ("/var/lib/tracedesk/sealed/untraced.csv: it is old", "untraced.csv: it is old"),
         ("L1: http://127.0.0.1:8080/messages: refused", "L1: the running desk: refused"),
         ("/etc/tracedesk", "tracedesk"),
         ("3/4 of it", "3/4 of it"),

@@ -8,10 +8,11 @@ import shutil
 from typing import Any, Iterator
 
 import pytest
-from lab import messages, small
+from lab import files, messages, small
 from lab.line import Line, NewLine, table
 from lab.tools import Ended, Word, run_tool
 from tracedesk_ops import attributes, plant
+from tracedesk_ops.recalls import sets
 
 pytestmark = pytest.mark.xdist_group("recall_sets")
 
@@ -21,6 +22,8 @@ K-1,CAP,2614,Maker One,red
 K-3,CAP,2609,Maker Two,red
 K-4,CAP,2614,Maker Two,red
 """
+
+RECEIVED = "INSERT INTO reel VALUES ('K-1', 'CAP', ?, '1', 0, 5, 0, 0, 5, 0, -1, 0)"
 
 
 @pytest.fixture(scope="module")
@@ -116,6 +119,24 @@ def test_without_a_book_no_attribute_is_known(line: Line) -> None:
     recall(line, "where", "date_code=2614", "part=CAP").expect(3, "K-1, K-3, K-4")
 
 
+@pytest.mark.parametrize(
+    ("kind", "names"), [("lot", ["L-77", "L-78"]), ("where", ["lot=L-77"])], ids=["lots", "where"]
+)
+def test_a_name_of_two_receipts_is_named(
+    folder: pathlib.Path, monkeypatch: pytest.MonkeyPatch, kind: str, names: "list[str]"
+) -> None:
+    """As on two lines, or if a spent reel's name came again: none of them is left out."""
+    known = sets.Known([])
+    for number, lot in enumerate(("L-77", "L-99")):
+        with files.opened(files.desk(folder / str(number))) as database:
+            database.execute(RECEIVED, [lot])
+            known.read(database)
+    monkeypatch.setattr(sets, "Known", lambda _: known)
+    asked = sets.question_of(kind, names, "", [])
+    assert asked.question.reels == ("K-1",) and not [it for it in asked.notes if "L-77" in it]
+    assert asked.faults[0].startswith("the name K-1 is of CAP, lot L-77 and of CAP, lot L-99")
+
+
 def test_a_later_row_takes_the_place_of_the_one_before(line: Line, book: pathlib.Path) -> None:
     give(line, book).expect()
     give(line, book).expect(0, "0 of 3 reels")
@@ -130,7 +151,7 @@ def test_a_later_row_takes_the_place_of_the_one_before(line: Line, book: pathlib
 @pytest.mark.gate
 def test_roots_book_belongs_to_the_line(folder: pathlib.Path) -> None:
     """Else the recalls of the page, which are run by the line's user, could not read it."""
-    archive, inbox = folder / "archive", folder / "untraced"
+    archive, inbox = folder / "sealed", folder / "untraced"
     for path in (archive, inbox):
         path.mkdir()
         os.chown(path, *NOBODY)

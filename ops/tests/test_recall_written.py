@@ -20,7 +20,7 @@ SHIPPED = """board,customer,date,note
 L1-000001,Customer A,2026-03-05,
 L1-000001,Customer B,2026-04-01,again
 """
-EVIDENCE = """SHA256SUMS asked.csv boards.csv catalogue-1.csv catalogue-2.csv
+EVIDENCE = """SHA256SUMS asked.csv boards.csv
     certificate.json chain-1.csv chain-2.csv desk-1.txt desk-2.txt doubtful.csv pieces.csv question.txt recall.html
     reels.csv shipped.csv untraced.csv""".split()
 NOBODY = 65534
@@ -33,10 +33,10 @@ class Written:
         self.world, self.folder, self.lot = world, folder, lot_of(world)
         self.page, self.evidence = folder / "page.html", folder / "evidence"
         lines = [
-            f"{line.name},{line.url},{os.path.relpath(line.catalogue, folder)}\n"
+            f"{line.name},{line.url},{os.path.relpath(line.folder, folder)}\n"
             for line in world.lines
         ]
-        (folder / "lines.csv").write_text("line,url,catalogue\n" + "".join(lines))
+        (folder / "lines.csv").write_text("line,url,folder\n" + "".join(lines))
         self.shipped = folder / "shipped.csv"
         self.shipped.write_text(SHIPPED)
 
@@ -76,8 +76,8 @@ def test_the_evidence_is_whole(written: Written) -> None:
     assert written.evidence.stat().st_mode & 0o777 == 0o700
     assert table((written.evidence / "boards.csv").read_text()) == boards
     assert (written.evidence / "shipped.csv").read_text() == SHIPPED
-    listed = (written.evidence / "catalogue-1.csv").read_text()
-    assert all(f"\n{file.name}," in listed for file in written.world.first.archived)
+    listed = (written.evidence / "certificate.json").read_text()
+    assert all(file.name in listed for file in written.world.first.archived)
 
 
 def test_the_page_has_the_boards(written: Written) -> None:
@@ -180,12 +180,11 @@ def test_a_name_that_nobody_knows(world: World, kind: str) -> None:
 # files that are no tables of lines, or none of shipped boards
 FILES = {
     "bad.csv": b"line,url\nL1,-\n",
-    "nul.csv": b"line,url,catalogue\nL1,http://127.0.0.1:1,a\0b\n",
+    "nul.csv": b"line,url,folder\nL1,http://127.0.0.1:1,a\0b\n",
     "nobody.csv": b"board,customer,date\nB,,2026-03-09\n",
     "netrc-binary": b"\xff",
 }
-# `@` is a folder with these files, `:` the words of the first line, URL its desk, ARCHIVE the
-# folder of its archives
+# `@` is a folder with these files, `:` the words of the first line, URL its desk, ARCHIVED a file
 BAD_WORDS = (
     "lot X --line L1 URL -",
     "lot X --line L1 - -",
@@ -197,9 +196,9 @@ BAD_WORDS = (
     "lot X --lines @/nul.csv",
     "lot X : --shipped @/bad.csv",
     "lot X : --shipped @/nobody.csv",
-    "lot X --line L1 URL @/circle/catalogue.csv",
+    "lot X --line L1 URL @/circle/L1",
     f"lot X --line L1 URL @/{'x' * 300}",
-    "lot X --line L1 URL ARCHIVE",
+    "lot X --line L1 URL ARCHIVED",
     "lot X : --netrc @/netrc-binary",
 )
 
@@ -214,7 +213,7 @@ def test_words_that_are_not_taken(world: World, folder: pathlib.Path, text: str)
         (" :", f" {own}"),
         ("@", folder),
         ("URL", world.first.url),
-        ("ARCHIVE", world.first.archive),
+        ("ARCHIVED", world.first.archived[0]),
     ):
         text = text.replace(name, str(value))
     recall(*text.split()).expect(2)
@@ -229,13 +228,13 @@ def test_without_a_line_nothing_is_asked(folder: pathlib.Path) -> None:
 
 
 def test_a_desk_that_is_named_twice_is_refused(world: World) -> None:
-    again: list[Word] = ["--line", "L2", f"{world.first.url}/", world.first.catalogue]
+    again: list[Word] = ["--line", "L2", f"{world.first.url}/", world.second.folder]
     done = recall("lot", "X", *world.first.recall_words(), *again)
     done.expect(2, "have the same running desk")
 
 
 def test_a_password_is_not_sent_in_plain_text(world: World, folder: pathlib.Path) -> None:
     (folder / "netrc").write_text("machine desk.plant login office password secret\n")
-    where: list[Word] = ["--line", "L1", "http://desk.plant:8080", world.first.catalogue]
+    where: list[Word] = ["--line", "L1", "http://desk.plant:8080", world.second.folder]
     done = recall("lot", "X", *where, "--netrc", folder / "netrc")
     done.expect(2, "password in plain text")

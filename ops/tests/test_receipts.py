@@ -32,9 +32,9 @@ def line(text: str, status: str = "200") -> bytes:
 
 @pytest.fixture
 def archive(folder: pathlib.Path) -> pathlib.Path:
-    for name in ("archive", "untraced", receipts.FOLDER):
+    for name in ("sealed", "untraced", receipts.FOLDER):
         (folder / name).mkdir()
-    return folder / "archive"
+    return folder / "sealed"
 
 
 def write(archive: pathlib.Path, *lines: bytes) -> None:
@@ -121,9 +121,9 @@ def test_the_proxy_hands_receipts_on(site: Site) -> None:
 
 def want_one(site: Site, reel: Reel) -> None:
     """The book has this reel alone, once the receipts are collected."""
-    done = run_tool("untraced", "collect", "--archive", site.room / "line/archive")
+    done = run_tool("untraced", "collect", "--archive", site.room / "line/sealed")
     done.expect(0, "1 reels have attributes")
-    assert known(site.room / "line/archive") == [reel]
+    assert known(site.room / "line/sealed") == [reel]
 
 
 TABLE = """{MessageName: "TraceDesk.ReelReceived", UniqueID: .id, Source: "erp", TimeStamp: .at,

@@ -15,7 +15,7 @@ from lab.messages import part
 from lab.shifted import Shifted
 from lab.tools import Word, started
 from lab.waits import PATIENCE, stays, wait_for
-from tracedesk_ops import catalogue, copies
+from tracedesk_ops import catalogue, copies, sealed
 
 
 # --- Three roll-overs in a row
@@ -26,7 +26,7 @@ def thrice(
     shifted: Shifted, program: pathlib.Path, tmp_path_factory: pytest.TempPathFactory
 ) -> Iterator[Line]:
     """A line that was rolled over three times during the shift."""
-    line = Line(program, tmp_path_factory.mktemp("thrice"))
+    line = Line(program, tmp_path_factory.mktemp("thrice") / "L1")
     line.feed([])
     line.serve()
     try:
@@ -44,9 +44,8 @@ def test_archives_are_a_chain_with_every_command_once(thrice: Line, shifted: Shi
     thrice.expect_tidy()
     with thrice.stopped():
         assert thrice.uids() == dict.fromkeys(shifted.accepted(), 1)
-    archives = thrice.archives()
-    files = [archive.file for archive in archives]
-    assert [archive.went_on_from for archive in archives] == ["", *files[:-1]]
+    begun = [sealed.begun_in(file) for file in thrice.files()]
+    assert begun == ["", *(file.stem for file in thrice.files()[:-1])]
 
 
 def test_nothing_acts_that_is_sent_again(thrice: Line, shifted: Shifted) -> None:
@@ -154,7 +153,7 @@ def test_board_in_work_is_a_reason_to_refuse(half: Line, shifted: Shifted) -> No
     rest = shifted.lines[shifted.upto :]
     place = next(n for n, line in enumerate(rest) if b"WorkStarted" in line)
     half.post(rest[: place + 1])
-    half.rollover().expect(1, "in work: ")
+    half.rollover().expect(3, "in work: ")
     half.expect_tidy()
     half.rollover("--with-board-in-work").expect()
     half.expect_tidy()
@@ -162,14 +161,14 @@ def test_board_in_work_is_a_reason_to_refuse(half: Line, shifted: Shifted) -> No
 
 def test_desk_that_has_taken_nothing_is_not_archived(line: Line) -> None:
     line.rollover().expect()
-    line.rollover().expect(1, "has taken no command")
+    line.rollover().expect(3, "has taken no command")
 
 
 def test_whether_it_is_due(half: Line, shifted: Shifted) -> None:
-    half.rollover("--due").expect(0, "placed pieces")
-    half.rollover("--due", "--pieces", 1).expect(1, "placed pieces")
+    half.rollover("--due").expect(1, "placed pieces")
+    half.rollover("--due", "--pieces", 1).expect(0, "placed pieces")
     half.rollover("--if-due").expect(0, "seconds")
-    assert not half.catalogue.exists(), "it was rolled over though it is not time"
+    assert not half.archive.exists(), "it was rolled over though it is not time"
     half.rollover("--if-due", "--pieces", 1).expect()
     shifted.expect_rolled_over(half)
 
@@ -235,7 +234,7 @@ def test_sender_that_goes_on(half: Line, shifted: Shifted) -> None:
         half.more(names[-1])
         time.sleep(0.2)  # it is mostly not connected
     _, said = tool.communicate()
-    assert tool.returncode == 1 and "somebody still sends" in said
+    assert tool.returncode == 3 and "somebody still sends" in said
     assert not half.drained.exists(), "senders are still told to come again"
     half.rollover().expect()
     for answer in half.post(part(name, half.time) for name in names):
@@ -248,13 +247,13 @@ def test_wrong_port(half: Line, line: Line, shifted: Shifted) -> None:
     right = half.port
     for wrong in (line.port, 1):
         half.port = wrong
-        half.rollover().expect(1, "say by --port")
+        half.rollover().expect(3, "say by --port")
         half.port = right
         half.wait_until_ready()
         assert line.answers()
     half.end()
     half.port = line.port
-    half.rollover().expect(1, "say by --port")
+    half.rollover().expect(3, "say by --port")
     half.port = right
     half.serve()
     shifted.expect_unchanged(half)

@@ -35,7 +35,7 @@ FAULTS = {
 @pytest.mark.parametrize("fault", FAULTS)
 def test_program_that_fails(half: Line, shifted: Shifted, folder: pathlib.Path, fault: str) -> None:
     word, act = FAULTS[fault]
-    half.rollover(program=wrapped(folder, half.program, word, act)).expect(1, AS_IT_WAS)
+    half.rollover(program=wrapped(folder, half.program, word, act)).expect(3, AS_IT_WAS)
     shifted.expect_unchanged(half)
 
 
@@ -43,7 +43,7 @@ def test_program_that_fails(half: Line, shifted: Shifted, folder: pathlib.Path, 
 def test_file_that_cannot_grow(half: Line, shifted: Shifted, share: float) -> None:
     """The copy doesn't fit, or the new desk doesn't."""
     limit = int(shifted.half.file.stat().st_size * share)
-    half.rollover(limit=limit).expect(1, AS_IT_WAS)
+    half.rollover(limit=limit).expect(3, AS_IT_WAS)
     shifted.expect_unchanged(half)
 
 
@@ -76,7 +76,7 @@ def test_disk_that_gets_full(
             subprocess.run(["sh", "-c", fill], check=False)
             os.truncate(filler, int(filler.stat().st_size * 0.9))
         program = wrapped(folder, line.program, word or "none", fill)
-        line.rollover(program=program).expect(1, AS_IT_WAS)
+        line.rollover(program=program).expect(3, AS_IT_WAS)
         filler.unlink()
         line.expect_tidy()
         line.rollover().expect()
@@ -93,11 +93,11 @@ def test_sigterm_puts_all_back(half: Line, shifted: Shifted, folder: pathlib.Pat
     program = wrapped(folder, half.program, "feed", "while true; do sleep 0.1; done")
     chain = {"CHAIN": str(program.with_name("tracedesk-chain"))}
     tool = started(half.rollover_words(program=program), env=chain)
-    messages = half.folder / ".desk.work/messages"
+    messages = half.folder / "work/messages"
     wait_for("the new desk is begun", lambda: messages.exists() or tool.poll() is not None)
     tool.terminate()
     _, said = tool.communicate(timeout=PATIENCE)
-    assert tool.returncode == 1 and "it was stopped by SIGTERM" in said
+    assert tool.returncode == 3 and "it was stopped by SIGTERM" in said
     shifted.expect_unchanged(half)
 
 
@@ -213,21 +213,15 @@ def users(shifted: Shifted, folder: pathlib.Path) -> Iterator[Line]:
 
 @pytest.mark.root
 @pytest.mark.gate
-@pytest.mark.parametrize(
-    "name, target",
-    [("archive/catalogue.csv.new", "plan.json"), (".desk.work", "."), ("archive", ".")],
-)
+@pytest.mark.parametrize("name", ["work", "sealed", "lost"])
 def test_links_of_the_services_user_lead_root_to_nothing(
-    users: Line, folder: pathlib.Path, name: str, target: str
+    users: Line, folder: pathlib.Path, name: str
 ) -> None:
     secret = folder / "secret"
     secret.mkdir()
     (secret / "plan.json").write_text("root's", encoding="utf-8")
     link = users.folder / name
-    if link.parent != users.folder:
-        link.parent.mkdir()
-        os.chown(link.parent, USER, USER)
-    link.symlink_to(secret / target)
+    link.symlink_to(secret)
     os.lchown(link, USER, USER)
     done = users.rollover()
     assert [path.name for path in secret.iterdir()] == ["plan.json"]

@@ -37,9 +37,7 @@ def two(new_line: NewLine, folder: pathlib.Path, etc: pathlib.Path) -> Line:
 
 
 def set_up_whole(line: Line, etc: pathlib.Path) -> Line:
-    """Sets up a line whose copies are in the folder of all."""
-    line.copies = etc.parent / "copies"
-    set_up(etc, line, copies=line.copies, stop=line.stop_command, start=line.start_script)
+    set_up(etc, line, stop=line.stop_command, start=line.start_script)
     return line
 
 
@@ -48,21 +46,13 @@ def proxy_words(line: Line) -> list[Word]:
 
 
 def test_tool_of_one_of_two_lines(one: Line, two: Line) -> None:
+    """Its folder, port and commands are those of its set-up file."""
     for line in (one, two):
-        named = "--line", line.name
-        run_tool("backup", *named, *proxy_words(line)).expect()
-        run_tool("rollover", *named, *proxy_words(line)).expect()
-        run_tool("settle", *named).expect()
-    assert [archive.desk for line in (one, two) for archive in line.archives()] == ["L1", "L2"]
-
-
-def test_tool_that_is_told_no_line(one: Line, two: Line) -> None:
-    run_tool("backup", *proxy_words(one)).expect(2, "say by --line")
-    run_tool("check").expect(2, "say by --line")
-    run_tool("backup", "--line", "L3").expect(2, "and not L3")
-    run_tool("check", "--line", "L2").expect(
-        3, f"{two.file} can't be judged: another process has it open"
-    )
+        run_tool("ops", "seal", line.name, "--program", line.program).expect()
+        words: list[Word] = ["--program", line.program, *proxy_words(line)]
+        run_tool("ops", "rollover", line.name, *words).expect()
+        assert len(line.archives()) == 1
+    run_tool("ops", "seal", "L3").expect(2, "there is no folder")
 
 
 def test_watch_and_clock_of_one_of_two_lines(one: Line, two: Line) -> None:
@@ -79,11 +69,6 @@ def test_recall_asks_all_lines(one: Line, two: Line) -> None:
     done.expect(0, "\nL1,running desk", "\nL2,running desk", "the lines are L1, L2: ")
 
 
-def test_tool_needs_no_words_where_one_line_is_set_up(one: Line) -> None:
-    run_tool("backup", *proxy_words(one)).expect()
-    run_tool("backup", "--check").expect()
-
-
 @pytest.mark.parametrize(
     "text, why",
     [
@@ -92,42 +77,23 @@ def test_tool_needs_no_words_where_one_line_is_set_up(one: Line) -> None:
         (b"", "names no line"),
         (b"line = L\xff\n", "can't be read"),
         (b"port = 8080\n", "names no line"),
-        (b"line = L2\ndb = desk\n", "no whole path"),
+        (b"line = L2\ndb = x/desk\n", "no whole path"),
+        (b"line = L2\ndb = /desk\n", "in a folder of the line's own"),
+        (b"line = L2\ndb = /none/l2\n", "in a folder of the line's own"),
         (b"line = L2\nline = L3\n", "is there twice"),
-        (b"line = L1\ndb = /other\n", "have line = L1"),
-        (b"line = L2\ndb = /desk\n", "have db = "),
+        (b"line = L1\ndb = /none/other/desk\n", "have line = L1"),
+        (b"line = L2\ndb = /none/l1/desk\n", "have db = "),
     ],
 )
 def test_file_that_is_no_set_up(etc: pathlib.Path, text: bytes, why: str) -> None:
     """Each tool names it, and what is wrong with it."""
-    (etc / "L1.conf").write_text("line = L1\ndb = /desk\n")
+    (etc / "L1.conf").write_text("line = L1\ndb = /none/l1/desk\n")
     (etc / "L2.conf").write_bytes(text)
-    for words in (["backup"], ["recall", "lot", "L1"], ["watch", "--to", "-"]):
+    for words in (["ops", "seal", "L1"], ["recall", "lot", "L1"], ["watch", "--to", "-"]):
         run_tool(*words).expect(2, str(etc), why)
 
 
-@pytest.mark.parametrize("has_own_disk", [False, True])
-@pytest.mark.parametrize("is_swapped", [False, True])
-def test_recall_of_lines_that_share_a_folder(
-    new_line: NewLine,
-    folder: pathlib.Path,
-    etc: pathlib.Path,
-    has_own_disk: bool,
-    is_swapped: bool,
-) -> None:
-    """A recall takes the file that the line's set-up names for its running desk's, wherever its
-    archives are: swapped ports are a fault."""
-    lines = [new_line(folder / "its", "L1", "one"), new_line(folder / "its", "L2", "two")]
-    big = folder / "big"
-    big.mkdir()
-    (big / "other").touch()
-    more = {"archive": big / "archive"} if has_own_disk else {}
-    ports = [line.port for line in lines]
-    for line, port in zip(lines, reversed(ports) if is_swapped else ports):
-        set_up(etc, line, port=port, **more)
-    done = run_tool("recall", "lot", "L1")
-    if is_swapped:
-        done.expect(3, "is not the running desk's")
-    else:
-        done.expect(0, "no archives yet")
-        lines[1].recall().expect(0, "no archives yet")
+def test_a_recall_notices_swapped_ports(one: Line, two: Line, etc: pathlib.Path) -> None:
+    for line, port in ((one, two.port), (two, one.port)):
+        set_up(etc, line, port=port)
+    run_tool("recall", "lot", "L1").expect(3, "is not the running desk's")

@@ -1,7 +1,6 @@
 """Two lines that work on some of the same boards, asked three ways, which print the same rows.
 
-The ways are the program's report on each file, tracedesk-recall, and PostgreSQL; and a company of
-which each line is a plant prints them too.
+The ways are the program's report on each file, tracedesk-recall, and PostgreSQL.
 """
 import contextlib
 import pathlib
@@ -16,7 +15,6 @@ from lab.desk import rows_of_archive
 from lab.plants import WorkedLine
 from lab.recalls import BOARD_TRACE, KINDS, TRACE, Asking, Rows
 from tracedesk_dev import postgres, shift
-from tracedesk_ops import backups
 
 pytestmark = [pytest.mark.xdist_group("three_ways")]
 
@@ -27,9 +25,6 @@ READ = """BEGIN; SELECT FROM plant.pieces_of('{}', '{}');
     SELECT DISTINCT relname FROM pg_locks JOIN pg_class ON oid = relation
     WHERE pid = pg_backend_pid() AND relname ~ '^placement_\\d+$' ORDER BY 1; COMMIT"""
 HOLD = "SELECT DISTINCT format('placement_%s', file) FROM {} WHERE {} = '{}' ORDER BY 1"
-PLANTS = """INSERT INTO company.plant VALUES ('plant-L1', '100 years'), ('plant-L2', '100 years');
-    CREATE SERVER plants FOREIGN DATA WRAPPER plproxy OPTIONS ({}, modular_mapping '1');
-    CREATE USER MAPPING FOR PUBLIC SERVER plants"""
 
 
 @pytest.fixture(scope="module")
@@ -60,7 +55,7 @@ def lines(program: pathlib.Path, room: pathlib.Path) -> Iterator[list[WorkedLine
 
 @pytest.fixture(scope="module")
 def server() -> Iterator[postgres.Server]:
-    databases.skip_without("plproxy")
+    databases.skip_without()
     with databases.server() as made:
         yield made
 
@@ -75,21 +70,7 @@ def asking(lines: list[WorkedLine], room: pathlib.Path) -> Asking:
 def whole(lines: list[WorkedLine], server: postgres.Server) -> Database:
     """The database of one plant with both lines."""
     made = databases.create(server, "whole")
-    made.load(lines[0].catalogue, *(line.copies for line in lines))
-    return made
-
-
-@pytest.fixture(scope="module")
-def company(lines: list[WorkedLine], server: postgres.Server) -> Database:
-    """A company over the database of each line's own plant."""
-    options = []
-    for number, line in enumerate(lines):
-        its = databases.create(server, f"plant_{line.name.lower()}")
-        its.load(line.copies)
-        its.change(f"INSERT INTO own_name VALUES ('plant-{line.name}')")
-        options.append(f"p{number} 'host={server.folder} dbname={its.name} user=plant'")
-    made = databases.create(server, "company", "company")
-    made.psql("-c", PLANTS.format(", ".join(options)))
+    made.load(*(line.kept()[-1] for line in lines))
     return made
 
 
@@ -122,10 +103,6 @@ def expect_same(asking: Asking, database: Database, kind: str, name: str) -> Row
     return by_plant
 
 
-def by_items(rows: Rows) -> list[list[tuple[str, str]]]:
-    return sorted(sorted(row.items()) for row in rows)
-
-
 def two(asking: Asking, of: Callable[[str, str], str]) -> str:
     """A board that lies in two of something, by the line and the file of its pieces."""
     found: dict[str, set[str]] = {}
@@ -155,16 +132,12 @@ def lot(whole: Database) -> str:
 
 @pytest.mark.parametrize("some", SOME)
 @pytest.mark.parametrize("kind", KINDS)
-def test_reports_a_recall_and_databases_print_the_same(
-    asking: Asking, whole: Database, company: Database, lot: str, kind: str, some: int
+def test_reports_a_recall_and_the_database_print_the_same(
+    asking: Asking, whole: Database, lot: str, kind: str, some: int
 ) -> None:
     found = 0
     for name in chosen(asking, kind, some, lot):
-        planted = expect_same(asking, whole, kind, name)
-        told = company.query("company-recall", pieces=1, **{kind: name}).rows
-        wanted = [{**row, "plant": f"plant-{row['line']}"} for row in planted]
-        assert by_items(told) == by_items(wanted), f"{kind} {name}"
-        found += len(planted)
+        found += len(expect_same(asking, whole, kind, name))
     assert found
 
 
@@ -220,10 +193,10 @@ def test_files_without_the_name_are_not_read(whole: Database, kind: str, table: 
 def test_what_is_loaded_again_changes_nothing(lines: list[WorkedLine], again: Database) -> None:
     """Nor does an older copy."""
     before = plants.state(again)
-    said = again.load(lines[0].catalogue, *(line.copies for line in lines))
+    said = again.load(*(line.kept()[-1] for line in lines))
     assert "pieces" not in said
     files = sum(len(line.named_files()) for line in lines)
-    assert said.count("loaded before") == files + len(lines[0].archived)
+    assert said.count("loaded before") == files
     older = again.load(lines[0].kept()[-2])
     assert "running desk: loaded before: all of its commands are in the archive " in older
     assert plants.state(again) == before
@@ -237,7 +210,7 @@ def test_copies_in_their_order_make_the_same_tables(
     with contextlib.ExitStack() as kept:
         kept.callback(whole.psql, "-c", f"DROP DATABASE {made.name}")
         for line in lines:
-            for copy in backups.kept_in(line.copies):
-                made.load("--line", line.name, copy)
+            for copy in line.kept():
+                made.load(copy)
         assert plants.parts(made) == 6
         assert plants.pieces(made) == plants.pieces(whole)

@@ -13,7 +13,6 @@ from lab import messages
 from lab.killed import killed_at
 from lab.records import a_record, boards, make_inbox, refused
 from tracedesk_ops import catalogue, handling, plant, story, untraced
-from tracedesk_ops.backups import untraced_work
 
 ALL = ["B0", "B1", "B2"]
 MOST_WRITES = 100  # of a collect
@@ -67,18 +66,6 @@ def test_readers_and_collect_name_a_damage(archive: pathlib.Path, name: str) -> 
         untraced.collect(archive)
     file.write_bytes(text)
     assert boards(archive) == ALL
-
-
-def test_a_copy_has_all_records_and_a_restore_brings_back_what_is_lacking(
-    archive: pathlib.Path, folder: pathlib.Path
-) -> None:
-    """Whether they have a row or not."""
-    name, text = a_record(9)
-    (untraced.inbox_of(archive) / f"{name}.json").write_bytes(text)
-    assert untraced_work.copy(archive, folder / "copy", lambda file: open(file, "rb")) == []
-    for its in (make_inbox(folder / "new", 0), archive):
-        untraced_work.take_back(its, untraced_work.records_of(folder / "copy"))
-        assert boards(its) == [*ALL, "B9"]
 
 
 @pytest.mark.parametrize("became", ["used as it is", "taken off"])

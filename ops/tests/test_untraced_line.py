@@ -99,7 +99,7 @@ def expired(plant: Plant) -> Plant:
 
 
 def collect(plant: Plant) -> None:
-    plant.untraced("collect", "--status", plant.status).expect()
+    plant.untraced("collect").expect()
 
 
 ODD = {  # what a scanner or a program may put into a report that no desk takes

@@ -35,10 +35,8 @@ def decided(line: Line, record: str) -> None:
 
 
 def started(line: Line) -> None:
-    """A start records the head of the book that is there."""
-    line.end()
-    line.settle().expect()
-    line.serve()
+    """A seal lets the desk record the head of the book that is there."""
+    line.seal()
 
 
 def tool(line: Line, *words: Word) -> Ended:
@@ -74,7 +72,7 @@ LOST: dict[str, Callable[[Line], None]] = {
 @pytest.mark.parametrize("how", LOST)
 def test_lost_rows_are_noticed_after_roll_overs(line: Line, how: str) -> None:
     """Board B4 is in none of the rows that are there, and each recall lacks it."""
-    line.backup().expect()
+    line.seal().expect()
     line.recall().expect()
     older = [path.read_bytes() for path in places_of(line)]
     refused(line, 4)
@@ -89,8 +87,7 @@ def test_lost_rows_are_noticed_after_roll_overs(line: Line, how: str) -> None:
         line.more(name)
         line.rollover().expect()
     line.recall().expect(3, LACKED)
-    line.recall_archives().expect(3, LACKED)
-    line.backup().expect(4, LACKED)
+    line.seal().expect(4, LACKED)
     tool(line, "list").expect(3, LACKED)
 
 
@@ -105,7 +102,7 @@ def test_a_person_decides_about_rows_that_no_copy_has(line: Line) -> None:
     tool(line, "decide", "lost", *person).expect()
     tool(line, "list").expect()
     line.recall().expect()
-    line.backup().expect()
+    line.seal().expect()
     tool(line, "decide", "lost", *person).expect(3, "no row is lost that a desk has recorded")
 
 

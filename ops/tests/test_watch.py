@@ -117,15 +117,14 @@ def test_machines_are_those_of_the_set_up(its: Watched) -> None:
     assert slots == {r"least_slot_pieces{M \"3\" \\}": 33}
 
 
-def test_without_copies_archives_or_a_clock_nothing_is_told_of_them(its: Watched) -> None:
+def test_without_sealed_files_or_a_clock_nothing_is_told_of_them(its: Watched) -> None:
     expect(
         its.metrics(),
         backup_timestamp_seconds=None,
         backup_commands=None,
         rollover_timestamp_seconds=None,
-        archive_commands=0,
+        archive_commands=None,
         clock_commands=None,
-        check_status=None,
         watch_source_up__backup=1,
     )
 
@@ -135,7 +134,7 @@ def test_the_desks_file_is_not_opened(its: Watched) -> None:
     (its.room / "pipes").mkdir()
     for name in ("desk", "desk-wal"):
         os.mkfifo(its.room / "pipes" / name)
-    found = its.metrics(db=its.room / "pipes/desk", archive=its.archive)
+    found = its.metrics(db=its.room / "pipes/desk")
     expect(found, file_bytes=0, log_bytes=0, up=1, watch_source_up__file=1)
 
 

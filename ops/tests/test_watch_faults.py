@@ -3,6 +3,7 @@ import contextlib
 import os
 import pathlib
 import random
+import shutil
 import subprocess
 import time
 from typing import Iterator, Optional
@@ -143,8 +144,6 @@ def test_what_is_no_desk_is_not_up(its: Watched, name: str) -> None:
 
 
 SOURCES = {
-    "backup": "backups/2026-03-09T050000Z/backup.json",
-    "archive": f"archive/L1-{'0' * 24}",
     "clock": "clock.json",
     "reports": "etc/station/setup.json",
 }
@@ -162,10 +161,20 @@ def test_a_source_that_is_spoilt_hides_no_other(its: Watched, name: str) -> None
         kept.callback(file.unlink)
         file.write_text('{"half":')
         found, told = its.look()
-    others = {*SOURCES, "service", "file"} - {name}
+    others = {*SOURCES, "backup", "archive", "service", "file"} - {name}
     expect(found, **{f"watch_source_up__{other}": 1 for other in others}, up=1, overdue_pieces=2)
     expect(found, **{f"watch_source_up__{name}": 0})
     assert f"watch: {name}: " in told
+
+
+def test_a_sealed_file_that_is_spoilt_hides_no_other_source(its: Watched) -> None:
+    file = its.line.sealed / f"{'0' * 24}.desk"
+    file.parent.mkdir()
+    file.write_text('{"half":')
+    found = its.metrics()
+    shutil.rmtree(file.parent)
+    expect(found, watch_source_up__backup=0, watch_source_up__archive=0, overdue_pieces=2)
+    expect(found, watch_source_up__clock=1, watch_source_up__reports=1, up=1)
 
 
 @pytest.mark.parametrize(
@@ -197,7 +206,7 @@ def test_a_service_that_failed(its: Watched) -> None:
 
 
 def test_a_desks_file_that_is_not_there(its: Watched) -> None:
-    found = its.metrics(db=its.room / "nowhere/desk", archive=its.archive)
+    found = its.metrics(db=its.room / "nowhere/desk")
     expect(found, watch_source_up__file=0, file_bytes=None, up=1)
 
 

@@ -17,10 +17,10 @@ import hashlib
 import json
 import os
 import pathlib
-from collections.abc import Callable, Iterable, Sequence
-from typing import BinaryIO, NamedTuple
+from collections.abc import Iterable, Sequence
+from typing import NamedTuple
 
-from tracedesk_ops import carry, catalogue, files, heads, places, plant
+from tracedesk_ops import carry, catalogue, files, heads, model, plant
 
 FILE_NAME, NOTE = "reels.csv", "reels.json"
 ASKED = ("reel", "part", "lot", "date_code", "supplier", "maker_part", "order")
@@ -70,7 +70,7 @@ def chained(before: str, its: Reel, at: str, by: str) -> str:
 
 def note_of(archive: pathlib.Path) -> pathlib.Path:
     """The file that names how many rows a line's book has."""
-    return places.of_archive(archive).inbox / NOTE
+    return archive.with_name(model.INBOX) / NOTE
 
 
 def read(archive: pathlib.Path) -> list[Row]:
@@ -87,11 +87,11 @@ def read(archive: pathlib.Path) -> list[Row]:
     chains = [BEGIN, *(row.chain for row in found)]
     if len(found) < count or chains[count] != chain:
         raise plant.Fault(
-            f"{path}: {noted} names {count} rows and another last one: take both from a copy"
+            f"{path}: {noted} names {count} rows and another last one: take both from a mirror"
         )
     if found and not noted.exists():
         raise plant.Fault(
-            f"{noted}: it is gone, so rows of {path} may be missing: take it from a copy"
+            f"{noted}: it is gone, so rows of {path} may be missing: take it from a mirror"
         )
     return found
 
@@ -123,7 +123,9 @@ def parsed(path: pathlib.Path, text: str) -> list[Row]:
         at, by, chain = row[len(ASKED) :]
         before = chained(before, its, at, by)
         if chain != before:
-            raise ValueError(f"line {rows.line_num} is not as it was written: take it from a copy")
+            raise ValueError(
+                f"line {rows.line_num} is not as it was written: take it from a mirror"
+            )
         found.append(Row(its, at, by, chain))
     return found
 
@@ -212,41 +214,3 @@ def append(path: pathlib.Path, text: str, is_begun: bool) -> None:
         file.flush()
         os.fsync(file.fileno())
     files.keep(path.parent)
-
-
-def in_copy(copy: pathlib.Path) -> list[pathlib.Path]:
-    """The note and the book in a copy of the line. The note is read first: rows that are written
-    meanwhile are behind those that it counts.
-    """
-    return [copy / "untraced" / NOTE, copy / "archive" / FILE_NAME]
-
-
-def copy(
-    archive: pathlib.Path,
-    to: pathlib.Path,
-    opened: Callable[[pathlib.Path], contextlib.AbstractContextManager[BinaryIO]],
-) -> None:
-    """Copies the book into a copy of the line."""
-    for file, copied in zip((note_of(archive), archive / FILE_NAME), in_copy(to)):
-        with contextlib.suppress(FileNotFoundError), opened(file) as source:
-            copied.parent.mkdir(mode=0o700, parents=True, exist_ok=True)
-            copied.write_bytes(source.read())
-
-
-def put_back(
-    archive: pathlib.Path,
-    copy: pathlib.Path,
-    as_caller: Callable[[], contextlib.AbstractContextManager[None]],
-) -> None:
-    """Puts the book of a copy of the line in its place, if the line has none. One that the line has
-    is newer, since no row of it is ever changed.
-    """
-    its = [note_of(archive), archive / FILE_NAME]
-    if any(path.exists() for path in its):
-        return
-    with as_caller():
-        texts = [path.read_text(encoding="utf-8") for path in in_copy(copy) if path.exists()]
-    if len(texts) == len(its):
-        for path, text in zip(its, texts):
-            path.parent.mkdir(exist_ok=True)
-            files.put(path, text, 0o640)

@@ -1,5 +1,4 @@
-"""What one desk's file says, told as messages to another desk: for ops/tracedesk-begin and
-ops/tracedesk-move.
+"""What one desk's file says, told as messages to another desk: for roll-overs and tracedesk-move.
 
 An exposure counts the minutes in which a reel was open. So a reel that lay open for e minutes in
 all is told as one that was opened e minutes before the end, and is sealed at the end if it was
@@ -19,7 +18,7 @@ import sqlite3
 from collections.abc import Callable, Container, Iterable, Iterator
 from typing import Any, NamedTuple
 
-from tracedesk_ops import catalogue, copies, model, plant, store, stored
+from tracedesk_ops import catalogue, copies, heads, model, plant, sealed, stored
 
 FLOOR_LIFE = {
     "1": None,
@@ -141,10 +140,11 @@ class Archive:
         ):
             self.tapes.setdefault((machine, slot), []).append(self.reels[reel])
         self.in_work = rows("SELECT machine, board FROM board WHERE machine <> '' ORDER BY machine")
-        file = store.read(pathlib.Path(), database, "")
-        self.heads = file.heads
+        recorded = [heads.recorded_in(database, kind) for kind in model.BOOKS]
+        self.heads = [uids[-1] for uids in recorded if uids]  # the newest of each book
         self.numbers = dict(rows(OWN, model.SOURCE))  # of its heads, by their UniqueIDs
-        self.known = known(database, file.begun)
+        begun = sealed.begun_with(database, sealed.begun_from(database), "main")
+        self.known = known(database, begun)
         self.unknown = 0  # older ones
         its = [
             name
@@ -406,10 +406,9 @@ def begun(
     checksum: str,
     at: int | None = None,
     loads: bool = True,
-    heads: Iterable[str] = (),
 ) -> tuple[list[str | Setup], Carrier]:
     """The messages of a new desk that begins where an archived one with this checksum ended, and
-    who tells what is not in them. It has the archived desk's newest heads, and these."""
+    who tells what is not in them. It has the archived desk's newest heads."""
     if archive.minute is None:
         raise NotCarried("it has accepted no command, so there is nothing to carry over")
     end = archive.minute if at is None else min(at, archive.minute)
@@ -418,7 +417,7 @@ def begun(
     carrier.all()
     if at is not None and at > end:
         messages.say(at, "ClockSet")
-    uids = dict.fromkeys([*archive.heads.uids(), *heads, model.BEGUN])
+    uids = dict.fromkeys([*archive.heads, model.BEGUN])
     names = [(archive.numbers.get(uid, 0), uid, model.SOURCE, 0) for uid in uids]
     room = (
         max(0, archive.greatest - len(messages.lines)) // 2

@@ -1,4 +1,4 @@
-"""The archives of a line, as around.py finds them in a folder, and minutes as texts.
+"""The sealed files of a line, as around.py finds them in its folder, and minutes as texts.
 
     spelled(29544840)      # 2026-03-05T14:00:00Z
 """
@@ -17,9 +17,9 @@ from collections.abc import Iterable, Iterator
 from typing import Any, NamedTuple
 
 from tracedesk_ops import copies
-from tracedesk_ops.store import sha256_of
+from tracedesk_ops.files import sha256_of
+from tracedesk_ops.line import LineFolder
 
-FILE_NAME = "catalogue.csv"
 RUNNING = "running desk"  # in the place of an archive's name
 EPOCH = datetime.datetime(1970, 1, 1)
 LOGS = copies.LOGS
@@ -31,20 +31,16 @@ class CatalogueError(Exception):
 
 
 class Archive(NamedTuple):
-    """An archive; minutes are whole minutes since 1970-01-01T00:00Z. `sha256` is its checksum, or
-    the digits of it in the file's name, if that is believed.
+    """A sealed file that a desk went on from; minutes are whole minutes since 1970-01-01T00:00Z.
+    `sha256` is its checksum, or the digits of it in the file's name, if that is believed.
     """
 
     file: str
     sha256: str
-    desk: str
+    line: str
     first_minute: int
     last_minute: int
     commands: int
-    pieces: int
-    went_on_from: str = ""
-    went_on_to: str = ""
-    name: str = ""
 
 
 def spelled(minute: int) -> str:
@@ -62,9 +58,9 @@ def minute_of(text: str) -> int:
 # --- The archives themselves
 
 
-def path_of(path: pathlib.Path, archive: Archive) -> pathlib.Path:
-    """Where an archive of the catalogue in that file lies."""
-    return pathlib.Path(path).parent / archive.file
+def path_of(folder: pathlib.Path, archive: Archive) -> pathlib.Path:
+    """Where a sealed file of a line's folder lies."""
+    return LineFolder(folder).sealed / archive.file
 
 
 def opened(file: str | os.PathLike[str]) -> contextlib.AbstractContextManager[sqlite3.Connection]:
@@ -78,16 +74,18 @@ def opened(file: str | os.PathLike[str]) -> contextlib.AbstractContextManager[sq
 
 @contextlib.contextmanager
 def unchanged(
-    path: pathlib.Path, archive: Archive, checked: bool = False
+    folder: pathlib.Path, archive: Archive, checked: bool = False
 ) -> Iterator[sqlite3.Connection]:
-    """An archive of the folder with that catalogue, as a database, with `checked` once it has its
-    checksum; it stops if the file changes meanwhile.
+    """A sealed file of a line's folder, as a database, with `checked` once it has its checksum; it
+    stops if the file changes meanwhile.
     """
-    file = path_of(path, archive)
+    file = path_of(folder, archive)
     try:
         before = os.stat(file)
         if checked and not sha256_of(file).startswith(archive.sha256):
-            raise CatalogueError(f"{file}: it is not the file of its checksum: take it from a copy")
+            raise CatalogueError(
+                f"{file}: it is not the file of its checksum: take it from a mirror"
+            )
         with opened(file) as database:
             yield database
         after = os.stat(file)

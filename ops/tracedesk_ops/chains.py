@@ -1,5 +1,5 @@
-"""The proved program over the files of a line, tracedesk-chain: for ops/tracedesk-recall and
-ops/tracedesk-backup.
+"""The proved program over the files of a line, tracedesk-chain: for tracedesk-recall and
+tracedesk-ops.
 
 It opens each file as an audit does: for writing, under a lock, with a log beside it, as the file's
 owner where root calls. It refuses a file that has several hard links. So what has those, is locked,
@@ -29,7 +29,7 @@ import tempfile
 from collections.abc import Iterable, Iterator, Sequence
 from typing import Any
 
-from tracedesk_ops import copies, parts, plant, store
+from tracedesk_ops import copies, parts, plant, sealed
 from tracedesk_ops.files import Room
 
 # statuses of the program: no chain; a file was refused; the first one was begun from another
@@ -170,9 +170,7 @@ def in_turn(
             first, last, middle = last, len(files), ["--from-middle"]
         except NoAnswer as fault:
             if (
-                fault.status == BEGUN
-                and not middle
-                and not store.Reader(without_logs=True).desk(files[0]).mark
+                fault.status == BEGUN and not middle and not sealed.begun_in(files[0])
             ):  # a sender's UniqueIDs begin as those of a beginning do
                 middle = ["--from-middle"]
                 continue

@@ -16,12 +16,16 @@ import shutil
 import sqlite3
 from collections.abc import Iterator
 
-from tracedesk_ops import catalogue, copies, files, lineage, plant, sealed, sealing, store
+from tracedesk_ops import catalogue, copies, files, lineage, plant, sealed, sealing
 from tracedesk_ops.line import LineFolder
 from tracedesk_ops.lineage import Lacked
 from tracedesk_ops.sealed import FilesFault, Sealed
 
 Path = pathlib.Path
+
+
+BOOKS, NOTES = ("untraced.csv", "reels.csv"), ("collected.json", "reels.json")
+ASIDE = "aside"  # the folder of an archive of 1.0.0 for what restores had put aside
 
 
 class NotChanged(FilesFault):
@@ -186,17 +190,18 @@ def take_over(line: LineFolder, folder: Path, audit: sealing.Audit) -> Sealed:
     Returns the sealed file of the desk.
     """
     archive = folder / "archive"
-    aside = store.files_aside(archive / "aside")
+    aside = files_aside(archive / ASIDE)
     with line.changed(is_new=True) as work:
         if line.desk.exists():
             raise NotChanged(f"{line.path} has a desk: restore one of its sealed files")
-        there = [path for path in store.paths_below(archive) if store.is_database(path)]
+        there = [path for path in files_below(archive) if copies.is_database(path)]
         size = sum(map(sealing.bytes_of, (*there, *aside, folder / "desk")))
         plant.want_room(work, size, f"copies of the files of {folder}")
         for path in there:
             sealing.put(line, shutil.copyfile(path, work / "archive"))
         for path in aside:
             keep_in_lost(line, whole_copy(path, work))
+        take_books(line, folder)
         sealing.copied_stopped(folder / "desk", work / "desk", audit)
         made = sealing.put(line, work / "desk")
         for fault in sealing.faults_since(made, lineage.of(line)):
@@ -207,6 +212,29 @@ def take_over(line: LineFolder, folder: Path, audit: sealing.Audit) -> Sealed:
         os.replace(new, line.desk)
         files.keep(line.path)
         return made
+
+
+def take_books(line: LineFolder, folder: Path) -> None:
+    """Copies the books of an older folder, and the notes of how many rows they have."""
+    pairs = [(folder / "archive" / name, line.sealed / name) for name in BOOKS]
+    pairs += [(folder / "untraced" / name, line.path / "untraced" / name) for name in NOTES]
+    for old, new in pairs:
+        if old.is_file() and not new.exists():
+            new.parent.mkdir(exist_ok=True)
+            shutil.copyfile(old, new)
+
+
+def files_below(archive: Path) -> list[Path]:
+    """The files below an archive, but what is aside."""
+    found = archive.rglob("*") if archive.is_dir() else ()
+    return sorted(path for path in found if path.is_file() and archive / ASIDE not in path.parents)
+
+
+def files_aside(aside: Path) -> list[Path]:
+    """The desks that restores had put aside, without their logs: each in a folder of its own."""
+    paths = aside.rglob("*") if aside.is_dir() else ()
+    logs = (*copies.LOGS, "-shm")
+    return sorted(path for path in paths if path.is_file() and not path.name.endswith(logs))
 
 
 def keep_in_lost(line: LineFolder, copy: Path) -> None:

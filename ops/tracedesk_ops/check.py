@@ -8,6 +8,7 @@ always to restore the newest sealed file.
 """
 from __future__ import annotations
 
+import os
 import pathlib
 from collections.abc import Iterator
 
@@ -18,12 +19,17 @@ Path = pathlib.Path
 
 
 def hindrances(desk: Path, audit: sealing.Audit) -> list[str]:
-    """Why a desk that no run has open can't run; nothing if it can. The audit is asked only if
-    nothing else is in the way.
+    """Why a desk can't run; nothing if it can, or runs. The audit is asked only if nothing else is
+    in the way.
     """
     file = str(desk)
     if nothing := outside.no_file(file):
         return [nothing.text()]
+    if os.access(desk, os.R_OK, effective_ids=True):
+        if others := [its.text() for its in outside.in_use(file)]:
+            return others
+        if plant.is_open(desk):
+            return []
     found = [*outside.outside(file)]
     if nothing := outside.no_database(file):
         found.append(nothing)

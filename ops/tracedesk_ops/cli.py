@@ -20,7 +20,7 @@ usage: tracedesk-ops make LINE [--from FOLDER]
   label     prints labels of reels, for a label printer
   events    publishes over MQTT what changes at a line
 
-LINE is its folder, or the name of one in /var/lib/tracedesk.
+LINE is its folder, its name in /etc/tracedesk/LINE.conf, or a folder in /var/lib/tracedesk.
 
 examples:
   tracedesk-ops make L1 --from /var/backups/tracedesk/2026-11-25T061203Z
@@ -50,13 +50,14 @@ failure.
 from __future__ import annotations
 
 import argparse
+import contextlib
 import importlib
 import os
 import pathlib
 import sys
 from collections.abc import Callable, Sequence
 
-from tracedesk_ops import carry, change, check, lineage, options, places, plant
+from tracedesk_ops import books, carry, change, check, heads, lineage, options, places, plant
 from tracedesk_ops import reader_of, rollover, sealing, successor
 from tracedesk_ops.line import Busy, LineFolder, NotALine
 from tracedesk_ops.sealed import Sealed
@@ -76,7 +77,10 @@ def seal(asked: argparse.Namespace) -> int:
     """Seals the desk, and takes away what is superfluous then."""
     line: LineFolder = asked.line
     made = sealing.seal(line, asked.port, audit_of(asked))
-    faults = swept(line, made)
+    faults = [*swept(line, made), *books.faults_of(line)]
+    if asked.port and plant.is_open(line.desk):  # by now it is known to be this desk's
+        with contextlib.suppress(heads.NoAnswer):
+            heads.give(asked.port, books.heads_of(line.sealed))
     plant.write_out(f"{made.path}: lawful {made.commands}\n")
     return told(faults, SEE_TO_IT)
 
@@ -96,8 +100,7 @@ def look(asked: argparse.Namespace) -> int:
     line: LineFolder = asked.line
     with line.held():
         found = lineage.of(line)
-        is_running = plant.is_open(line.desk)
-        hindrances = [] if is_running else check.hindrances(line.desk, audit_of(asked))
+        hindrances = check.hindrances(line.desk, audit_of(asked))
         faults = [*found.faults, *(its.text() for its in found.lacked)]
         faults += check.chain_faults(asked.program, found)
     if not told([*hindrances, *faults], NO):
@@ -189,18 +192,30 @@ APART = {"import": "importing", "label": "labels", "events": "events"}
 
 
 def line_named(name: str) -> LineFolder:
-    """The folder of a line."""
+    """The folder of a line: that of its set-up file, or one of its name."""
     path = Path(name) if "/" in name else places.HOME / options.line_name(name)
+    try:
+        for its in places.lines():
+            if its.line == name:
+                path = its.db.parent
+    except places.NotSetUp as fault:
+        raise argparse.ArgumentTypeError(str(fault)) from fault
     return LineFolder(path.resolve())
 
 
-def set_up_of(line: LineFolder) -> dict[str, str]:
-    """What the line's set-up file says of its service, which is the unit tracedesk@LINE else."""
-    unit = f"tracedesk@{line.name}"
-    words = {"stop": f"systemctl stop {unit}"}
+def set_up_of(line: LineFolder) -> dict[str, str | int]:
+    """What the line's set-up file says of its service, which is the unit tracedesk@LINE else; of
+    the package's own desk it is tracedesk.
+    """
+    is_own = line.path == places.HOME.resolve()
+    unit = "tracedesk" if is_own else f"tracedesk@{line.name}"
+    words: dict[str, str | int] = {
+        "stop": f"systemctl stop {unit}",
+        "port": places.PORT if is_own else 0,
+    }
     words["start"] = f"systemctl reset-failed {unit}; systemctl start {unit}"
     for its in places.files():
-        if its["line"] == line.name:
+        if places.of_words(its).db.parent.resolve() == line.path:
             words |= {word: its[word] for word in ("port", "stop", "start") if word in its}
     return words
 

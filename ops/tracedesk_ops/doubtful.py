@@ -25,7 +25,6 @@ from __future__ import annotations
 
 import contextlib
 import functools
-import itertools
 import json
 import pathlib
 import sqlite3
@@ -33,13 +32,13 @@ from collections.abc import Callable, Iterator, Sequence
 from typing import NamedTuple, Optional
 
 from tracedesk import records
-from tracedesk_ops import catalogue, copies, files, model, places, plant, store, untraced
+from tracedesk_ops import catalogue, copies, files, heads, model, plant, sealed, untraced
 from tracedesk_ops.handling import Piece, minute_of, work_of
+from tracedesk_ops.line import LineFolder
 from tracedesk_ops.story import TAKEN_OFF, Story
 
 Opener = Callable[[], contextlib.AbstractContextManager[sqlite3.Connection]]
 Has = Callable[[str], Optional[bool]]  # whether a running desk has a UniqueID; None: no answer
-Running = tuple[Optional[pathlib.Path], Optional[Has]]
 
 
 @contextlib.contextmanager
@@ -71,18 +70,18 @@ class Line(NamedTuple):
 
 
 def look(
-    path: pathlib.Path,
+    folder: pathlib.Path,
     archives: list[catalogue.Archive],
     is_running: bool = False,
-    running: Sequence[Running] = (),
+    has: Has | None = None,
 ) -> Line:
-    """Looks at what is around a catalogue. The archives are in the order of their chain; the
-    running desk's file is next to their folder, or named. `running` has for each desk that runs its
-    file, or None, and a call that says whether it has a UniqueID, or None; in a copy of a line no
-    desk runs.
+    """Looks at what is around a line's files. The archives are in the order of their chain. If a
+    desk runs, its file in the folder is read too; `has` says whether the running desk has a
+    UniqueID, or None.
     """
+    archive = LineFolder(folder).sealed
     notes: list[str] = []
-    book, faults, pieces = untraced.read(path.parent), [], []
+    book, faults, pieces = untraced.read(archive), [], []
     recorded: set[str] = set()  # a roll-over carries the newest head of a book alone
     refused, decided = untraced.refused(book.records), untraced.decisions(book.records)
     works = [it for it in refused if untraced.is_work(it)]
@@ -99,23 +98,22 @@ def look(
     try:
         with contextlib.ExitStack() as held:
             files: dict[str, Opener] = {  # one archive is open at a time: there may be many
-                it.file: functools.partial(catalogue.unchanged, path, it, False) for it in archives
+                it.file: functools.partial(catalogue.unchanged, folder, it, False)
+                for it in archives
             }
-            for file, database, why in (
-                running_files(path.parent.parent, archives, running, held) if is_running else ()
-            ):
-                if why:
+            if is_running:
+                copy, why = running_file(LineFolder(folder).desk, archives, has, held)
+                if copy:
+                    files[catalogue.RUNNING] = held_open(copy)
+                else:
                     faults.append(
                         f"{why}: whether pieces since the last archive may be of other reels isn't"
                         " known"
                     )
-                elif database:
-                    name = f"{catalogue.RUNNING} {file.name}".removesuffix(" desk")
-                    files[name] = held_open(database)
             for name, opened in files.items():
                 with opened() as database:
                     story.read(name, database)
-                    recorded.update(store.heads_in(database).books)
+                    recorded.update(heads.all_recorded_in(database))
             for place, opened in enumerate(files.values()):
                 with opened() as database:
                     story.place(place, database)
@@ -126,15 +124,15 @@ def look(
         for record in works:
             pieces += story.kept(record) if untraced.is_shipped(decided.get(record.id)) else ()
     except (catalogue.CatalogueError, OSError, sqlite3.Error) as fault:
-        faults.append(f"{path}: whether pieces may be of other reels isn't known: {fault}")
-    faults += untraced.missing(path.parent, recorded)
+        faults.append(f"{folder}: whether pieces may be of other reels isn't known: {fault}")
+    faults += untraced.missing(archive, recorded)
     return Line(
         [
             *((it, decided.get(it.id), story.reels_of(work_of(it))) for it in works),
             *((it, decided[it.id], it.told["DeskReel"]) for it in differing if it.id in decided),
         ],
         pieces,
-        [*book.faults, *faults, *waiting(places.of_archive(path.parent).status)],
+        [*book.faults, *faults, *waiting(archive.with_name(model.STATUS))],
         notes,
         story,
     )
@@ -144,66 +142,37 @@ def held_open(database: sqlite3.Connection) -> Opener:
     return lambda: contextlib.nullcontext(database)
 
 
-def running_files(
-    around: pathlib.Path,
+def running_file(
+    desk: pathlib.Path,
     archives: list[catalogue.Archive],
-    running: Sequence[Running],
+    has: Has | None,
     held: contextlib.ExitStack,
-) -> Iterator[tuple[pathlib.Path, sqlite3.Connection | None, str]]:
-    """Of each desk that runs its file and a copy of it, or why there is none. If nothing names its
-    file, that is `desk`, or else another one in that folder.
-    """
-    copied_of: dict[pathlib.Path, sqlite3.Connection] = {}
-    for db, has in running or [(around / "desk", None)]:
-        whys = []
-        for file in (
-            [db]
-            if db
-            else itertools.chain(
-                [around / "desk"],
-                (
-                    it
-                    for it in sorted(around.iterdir())
-                    if it.name != "desk" and store.is_database(it)
-                ),
-            )
-        ):
-            if file.exists() and file not in copied_of:
-                copied_of[file] = held.enter_context(copied(file))
-            whys.append(
-                why_not(file, copied_of[file], archives, [has] if has else [])
-                if file in copied_of
-                else f"{file} is not here"
-            )
-            if not whys[-1]:
-                yield file, copied_of[file], ""
-                break
-        else:
-            yield around, None, whys[0]
+) -> tuple[sqlite3.Connection | None, str]:
+    """A copy of a running desk's file, or why there is none."""
+    if not desk.exists():
+        return None, f"{desk} is not here"
+    copy = held.enter_context(copied(desk))
+    why = why_not(desk, copy, archives, has)
+    return (None if why else copy), why
 
 
 def why_not(
     desk: pathlib.Path,
     database: sqlite3.Connection,
-    archives: list[catalogue.Archive],
-    running: Sequence[Has],
+    archives: Sequence[catalogue.Archive],
+    has: Has | None,
 ) -> str:
     """Why a file is not the running desk's as it is now, if so; `database` is a copy of it. It may
     be an older copy, or another desk's.
     """
-    ends = [its.sha256[: model.DIGITS] for its in archives if not its.went_on_to]
-    mark = store.read(desk, database, "").mark
-    if (
-        ends
-        and mark not in ends
-        and (mark or not running or any(has(model.BEGUN) for has in running))
-    ):
+    begun = sealed.begun_from(database)
+    if archives and begun != archives[-1].sha256[: model.DIGITS]:
         return f"{desk} is not the running desk's: it didn't go on from the newest archive"
     newest = database.execute("SELECT uid FROM accepted ORDER BY number DESC LIMIT 1").fetchone()
-    said = [has(newest[0]) if newest else True for has in running]
-    if not said or None in said:
+    said = has(newest[0]) if has and newest else None
+    if said is None:
         return ""  # who asks says that the desk gave no answer
-    if False in said:
+    if not said:
         return (
             f"{desk} is not the running desk's: that doesn't have {newest[0]}, the newest message"
             " in the file"

@@ -41,7 +41,7 @@ class Line(Protocol):
         ...
 
     @property
-    def catalogue(self) -> pathlib.Path:
+    def folder(self) -> pathlib.Path:
         ...
 
 
@@ -86,7 +86,7 @@ def at(
     line: Line, archive: catalogue.Archive, question: Question, wants_pieces: bool = True
 ) -> Told:
     """Whether an archive of a line knows the name, and its pieces."""
-    with catalogue.unchanged(line.catalogue, archive) as database:
+    with catalogue.unchanged(line.folder, archive) as database:
         return told_by(database, line, archive, question, wants_pieces)
 
 
@@ -135,12 +135,8 @@ def with_minutes(database: sqlite3.Connection, pieces: list[Piece]) -> list[Piec
 
 def left_in(
     database: sqlite3.Connection, line: Line, question: Question, minute: int | None = None
-) -> tuple[list[Reel], set[str]]:
-    """What is left of the lot or reel by the tables of a desk, as of a minute, none being now; and
-    the machines of its sheets.
-    """
+) -> list[Reel]:
+    """What is left of the lot or reel by the tables of a desk, as of a minute, none being now."""
     where, values = question.sql()
     left = [] if question.kind == "board" else copies.rows(database, LEFT.format(where), *values)
-    return [Reel._make((*row, line.name, minute)) for row in left], {
-        machine for (machine,) in database.execute("SELECT machine FROM sheet_row")
-    }
+    return [Reel._make((*row, line.name, minute)) for row in left]

@@ -1,53 +1,46 @@
-"""The heads that a desk records of itself, so that a missing or another file is noticed: model.py
-has their kinds.
+"""The heads of a line's books, which its desk records: so a row that is missing is noticed.
 
 Each is an accepted `ClockSet` whose own minute is 0: it never moves the desk's minute. A desk that
 has accepted nothing gets none, since its first command would set that minute.
 """
 from __future__ import annotations
 
-import hashlib
 import http.client
 import json
 import pathlib
 import secrets
+import sqlite3
 from collections.abc import Iterable
 
 from tracedesk import Desk
 
 from tracedesk_ops import model, stored
-from tracedesk_ops.model import Heads
 
-MACHINE = pathlib.Path("/etc/machine-id")
-OF_MACHINE, OF_EPOCH, OF_BOOK = 8, 32, 32  # digits
+OF_BOOK = 32  # digits
 LAST_MINUTE = 4_223_371_679  # 9999-12-31T23:59Z: too far ahead for each desk that has a minute
 SECONDS = 60
+RECORDED = """SELECT uid FROM accepted WHERE uid >= ? AND uid < ? AND source = ?
+    AND command = 'ClockSet' ORDER BY number"""  # by the index of uid
 
 
 class NoAnswer(Exception):
     """Why a running desk took no head."""
 
 
-def machine() -> str:
-    """Some digits that tell this machine from others."""
-    try:
-        name = MACHINE.read_bytes().strip()
-    except OSError:
-        name = b""
-    return hashlib.sha256(b"tracedesk " + name).hexdigest()[:OF_MACHINE]
-
-
-def new_epoch() -> str:
-    return f"epoch-{machine()}{secrets.token_hex((OF_EPOCH - OF_MACHINE) // 2)}"
-
-
-def new_copy() -> str:
-    return f"copy-{secrets.token_hex(16)}"
-
-
 def book_head(kind: str, chain: str) -> str:
     """The head of a book whose last row has this chain."""
     return f"{kind}-{chain[:OF_BOOK]}"
+
+
+def recorded_in(database: sqlite3.Connection, kind: str) -> list[str]:
+    """The heads of a book that a desk with these tables has recorded, the newest last."""
+    rows = database.execute(RECORDED, [f"{kind}-", f"{kind}.", model.SOURCE])
+    return [uid for (uid,) in rows]
+
+
+def all_recorded_in(database: sqlite3.Connection) -> list[str]:
+    """The same of all books."""
+    return [uid for kind in model.BOOKS for uid in recorded_in(database, kind)]
 
 
 def lost(kind: str, chains: Iterable[str], recorded: Iterable[str]) -> list[str]:
@@ -62,27 +55,8 @@ def lacked_by(path: pathlib.Path) -> str:
     """What is said of a book that lacks rows: it is gone, was cut, or is an older one."""
     return (
         f"{path}: it has not the row that the desk has recorded: it is an older one, or was cut."
-        " Take it from a copy"
+        " Take it from a mirror"
     )
-
-
-def is_of_this_machine(heads: Heads) -> bool:
-    return heads.epoch.startswith(machine())
-
-
-def lacked(heads: Heads, is_begun: bool, line: str, books: Iterable[str]) -> list[str]:
-    """The UniqueIDs of heads that a desk of this line, with these heads of its books, doesn't have
-    yet. The first copy of a desk to run on a machine gets an epoch there."""
-    uids = []
-    if not heads.desk:
-        uids.append(f"desk-{secrets.token_hex(16)}")
-    if is_begun and not heads.is_begun:
-        uids.append(model.BEGUN)
-    if line and not heads.line and len(line) <= model.LONGEST_LINE:
-        uids.append(f"line-{line}")
-    if not is_of_this_machine(heads):
-        uids.append(new_epoch())
-    return [*uids, *(uid for uid in books if uid not in heads.uids())]
 
 
 def message(uid: str) -> str:
@@ -93,21 +67,22 @@ def message(uid: str) -> str:
 # --- A running desk
 
 
+def has_minute(port: int) -> bool:
+    """Whether the desk that runs on a port of this machine has accepted something. The first
+    command of one sets its minute.
+    """
+    name = f"none-{secrets.token_hex(16)}"
+    body = {"Machine": name, "Slot": "-"}
+    question = stored.line(name, model.SOURCE, LAST_MINUTE, "MaterialsUnloaded", body)
+    return said(port, question).get("Refusal") == "TooFarAhead"
+
+
 def give(port: int, uids: list[str]) -> None:
     """Gives heads to the desk that runs on a port of this machine; a NoAnswer says why it has not
     taken them.
     """
-    if not uids:
+    if not uids or not has_minute(port):
         return
-    question = stored.line(
-        f"none-{secrets.token_hex(16)}",
-        model.SOURCE,
-        LAST_MINUTE,
-        "MaterialsUnloaded",
-        {"Machine": f"none-{secrets.token_hex(16)}", "Slot": "-"},
-    )
-    if said(port, question).get("Refusal") != "TooFarAhead":
-        return  # it has accepted nothing, and a head would set its minute
     for uid in uids:
         answer = said(port, message(uid))
         if answer.get("Answer") != "Accepted":

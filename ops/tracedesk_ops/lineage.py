@@ -16,7 +16,7 @@ from __future__ import annotations
 import dataclasses
 import pathlib
 import sqlite3
-from collections.abc import Mapping, Sequence
+from collections.abc import Callable, Mapping, Sequence
 from typing import NamedTuple
 
 from tracedesk_ops import catalogue, sealed
@@ -109,13 +109,15 @@ def of(line: LineFolder) -> Lineage:
     return Lineage(files, lost, members, lacked, faults)
 
 
-def read_all(folder: Path, faults: list[str]) -> list[Sealed]:
+def read_all(
+    folder: Path, faults: list[str], read: Callable[[Path], Sealed] | None = None
+) -> list[Sealed]:
     """The files of a folder; what is wrong with the others is added to `faults`."""
     found = []
     try:
         for path in sealed.paths_in(folder):
             try:
-                found.append(sealed.read(path))
+                found.append((read or sealed.read)(path))
             except sealed.Damaged as fault:
                 faults.append(str(fault))
     except sealed.Damaged as fault:

@@ -10,7 +10,7 @@ import shutil
 from tracedesk_ops import model, places
 from tracedesk_ops.plant import Fault
 
-SET_UP, DESK, PORT = places.FOLDER, places.DESK, places.PORT
+SET_UP = places.FOLDER
 STOP = "systemctl stop tracedesk"
 # it may have failed too often, on a desk that was not to be had
 START = "systemctl reset-failed tracedesk; systemctl start tracedesk"
@@ -87,25 +87,6 @@ def set_up(reader: argparse.ArgumentParser, **names: str) -> None:
     )
 
 
-def offer(reader: argparse.ArgumentParser) -> None:
-    """Adds the words of both tools."""
-    reader.add_argument(
-        "--db", type=pathlib.Path, default=DESK, metavar="FILE", help=f"the desk's file ({DESK})"
-    )
-    reader.add_argument(
-        "--archive",
-        type=pathlib.Path,
-        metavar="FOLDER",
-        help="the archived desks with their catalogue (archive, beside the file)",
-    )
-    offer_program(reader)
-    offer_service(reader)
-    reader.add_argument(
-        "--port", type=int, default=PORT, metavar="N", help=f"where the desk answers ({PORT})"
-    )
-    set_up(reader, copies="to")
-
-
 def offer_service(reader: argparse.ArgumentParser) -> None:
     """Adds the words by which a tool stops and starts the desk's service."""
     reader.add_argument(
@@ -137,30 +118,7 @@ def offer_service(reader: argparse.ArgumentParser) -> None:
     )
 
 
-def want_no_folder(reader: argparse.ArgumentParser, asked: argparse.Namespace) -> None:
-    """Ends a tool that would put files of an older kind into a line's folder."""
-    if asked.archive.name == model.SEALED:
-        reader.error(f"{asked.db.parent} is a line's folder, which tracedesk-ops keeps")
-
-
 def line_name(text: str) -> str:
-    if not re.fullmatch(r"[A-Za-z0-9][A-Za-z0-9._-]*", text) or len(text) > model.LONGEST_LINE:
+    if not re.fullmatch(r"[A-Za-z0-9][A-Za-z0-9._-]*", text) or len(text) > model.LONGEST_NAME:
         raise argparse.ArgumentTypeError("a line's name has letters, digits, '.', '_' and '-'")
     return text
-
-
-def understood(reader: argparse.ArgumentParser, wants_desk: bool = True) -> argparse.Namespace:
-    """The words of the command line, with whole paths; it ends where they can't be followed."""
-    asked = reader.parse_args()
-    asked.archive = (asked.archive or places.archive_of(asked.db.absolute())).absolute()
-    asked.db = (
-        asked.db.resolve() if asked.db.is_symlink() else asked.db.absolute()
-    )  # a link to it stays one
-    find_program(reader, asked)
-    line = model.Line("", asked.db, asked.archive)
-    was_cut_off = line.room.exists() or line.aside.exists()
-    if wants_desk and not asked.db.is_file() and not was_cut_off:
-        reader.error(f"there is no file {asked.db}: name the desk's file by --db")
-    if asked.archive == asked.db.parent:
-        reader.error("the archived desks have a folder of their own")
-    return asked

@@ -11,19 +11,20 @@ import subprocess
 from collections.abc import Iterator
 from typing import Any, NamedTuple
 
-from tracedesk_ops import copies, store
+from tracedesk_ops import copies
 
 HEAD = 100  # bytes of a database's head
 SMALLEST = 512  # bytes of a page
 ROOM_OF_AN_OPENING = 65_536  # bytes that an opening may write to its log
 RIGHTS, NO_ROOM, OTHER_NAME, JOURNAL = "no permission", "no room", "another name", "half written"
-NO_FILE, NO_DATABASE = "no file", "not a database"
+NO_FILE, NO_DATABASE, IN_USE = "no file", "not a database", "in use"
 RESTORE = "restore the newest sealed file"
 REMEDIES = {  # by the cause
     RIGHTS: "give the file and its log back to the owner of their folder, by chown",
     NO_ROOM: "make room there; a disk that is mounted read only mostly failed: journalctl --dmesg",
     OTHER_NAME: "take the other name away, and not the file; put the log where its link is",
     JOURNAL: f"delete neither of both: move them aside together, and {RESTORE}",
+    IN_USE: "end it, as it ends otherwise",
     NO_FILE: f"is the name right, and is its disk there (findmnt)? Else {RESTORE}",
     NO_DATABASE: f"is the name right? Else move it aside, look at the disk, and {RESTORE}",
 }
@@ -39,19 +40,6 @@ class Finding(NamedTuple):
         return f"{self.cause}: {self.words}: {REMEDIES[self.cause]}"
 
 
-def holder(file: str) -> str | None:
-    """Who holds a lock that keeps the program from a file, in words; none where there is no such
-    lock.
-    """
-    with open(file, "rb") as it:
-        if not copies.is_locked(it, fcntl.F_WRLCK):
-            return None
-    return (
-        ", ".join(openers(file))
-        or "one that isn't seen from here, of another user or another machine"
-    )
-
-
 def openers(file: str) -> list[str]:
     """The other processes that have a file open, in words. A lock of the program's names no
     process, so all are looked at.
@@ -63,6 +51,14 @@ def openers(file: str) -> list[str]:
             if os.path.samestat(it.stat(), wanted) and process.name != str(os.getpid()):
                 found.add(f"process {process.name} ({(process / 'comm').read_text().strip()})")
     return sorted(found)
+
+
+def in_use(file: str) -> Iterator[Finding]:
+    """Which programs have a lock of the file that keeps the desk's from it, unless one is that."""
+    with open(file, "rb") as it:
+        found = openers(file) if copies.is_locked(it, fcntl.F_WRLCK) else []
+    if found and not any(it.endswith("(tracedesk)") for it in found):
+        yield Finding(IN_USE, f"{', '.join(found)} has {file} open")
 
 
 def may(user: pwd.struct_passwd | None, *tests: str) -> bool:
@@ -160,7 +156,7 @@ def outside(file: str) -> Iterator[Finding]:
 
 def no_database(file: str) -> Finding | None:
     """Why a file can't be a database, or none."""
-    size, log = os.stat(file).st_size, store.log_of(pathlib.Path(file))
+    size, log = os.stat(file).st_size, copies.log_of(pathlib.Path(file))
     with open(file, "rb") as it:
         head = it.read(HEAD)
     if not size and log:

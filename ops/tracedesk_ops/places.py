@@ -1,12 +1,10 @@
-"""The places of the lines of this machine, each named once, in the line's set-up file
-/etc/tracedesk/LINE.conf:
+"""The lines of this machine, each by its set-up file /etc/tracedesk/LINE.conf:
 
     line = L1
-    inbox = /srv/untraced
+    port = 8081
 
-Every tool asks here, and derives no place from another one. What a file doesn't name is the
-package's own place if the file names no `db` either, and else lies next to that. A line on another
-machine has a file of two words: line = L2 and url = ssh:HOST.
+A line is the folder of its desk, and all of its places are in it: /var/lib/tracedesk/LINE, or
+/var/lib/tracedesk itself for the package's own service, or that of the desk that `db` names.
 """
 from __future__ import annotations
 
@@ -15,7 +13,6 @@ import dataclasses
 import functools
 import os
 import pathlib
-from collections.abc import Iterable
 
 from tracedesk_ops import model
 
@@ -24,10 +21,9 @@ Path = pathlib.Path
 FOLDER = Path(os.environ.get("TRACEDESK_SET_UP", "/etc/tracedesk"))
 PROXYS = "certificates.conf"  # it is there too: packaging/nginx.conf
 HOME = Path("/var/lib/tracedesk")
-DESK, COPIES, PORT = HOME / "desk", Path("/var/backups/tracedesk"), 8080
-WORDS = "line db archive inbox status copies port url stop start key".split()
-PATHS = ("db", "archive", "inbox", "status", "copies", "key")
-BY_SSH = "ssh:"  # how the URL of a line on another machine begins
+DESK, PORT = HOME / "desk", 8080
+WORDS = "line db port url stop start key".split()
+PATHS = ("db", "key")
 SECTION = "line"  # configparser wants one, and set-up files have none
 
 
@@ -41,19 +37,20 @@ class Places:
 
     line: str
     db: Path
-    archive: Path  # the archived desks, and untraced.csv
-    inbox: Path  # where senders put records of untraced work
-    status: Path  # what senders and tracedesk-untraced say of themselves
-    copies: Path
     port: int
     url: str
     stop: str = ""
     start: str = ""
     key: str = ""  # the private key of ssh-keygen by which the evidence of a recall is signed
 
+    @property
+    def archive(self) -> Path:
+        """The sealed files, and the books."""
+        return self.db.with_name(model.SEALED)
+
     def words(self) -> dict[str, str]:
-        """The same as the words of a set-up file."""
-        words = {name: str(getattr(self, name)) for name in WORDS}
+        """The words of the set-up file, and the folder of sealed files."""
+        words = {name: str(getattr(self, name)) for name in (*WORDS, "archive")}
         return {name: value for name, value in words.items() if value}
 
 
@@ -64,10 +61,6 @@ def of_words(words: dict[str, str]) -> Places:
     return Places(
         line=words.get("line", ""),
         db=db,
-        archive=Path(words.get("archive", archive_of(db))),
-        inbox=Path(words.get("inbox", db.with_name("untraced"))),
-        status=Path(words.get("status", db.with_name("status"))),
-        copies=Path(words.get("copies", COPIES)),
         port=int(port),
         url=words.get("url", f"http://127.0.0.1:{port}"),
         stop=words.get("stop", ""),
@@ -81,25 +74,20 @@ def desk_of(line: str) -> Path:
     return HOME / line / DESK.name if line and (HOME / line).is_dir() else DESK
 
 
-def archive_of(db: Path) -> Path:
-    """Where the archived desks are, if nobody says: of a line that is a folder the sealed files."""
-    is_folder = db.with_name(model.SEALED).is_dir()
-    return db.with_name(model.SEALED if is_folder else "archive")
-
-
 def lines() -> list[Places]:
     """The lines that are set up on this machine; a NotSetUp if a file is wrong, or two name one
-    desk or one port.
+    desk or one port. Port 8080 is that of the package's own desk.
     """
-    found = [of_words(words) for words in files() if not is_elsewhere(words)]
+    found = [of_words(words) for words in files()]
     want_no_two("db", [str(its.db) for its in found])
     want_no_two("port", [str(its.port) for its in found])
+    for its, words in zip(found, files()):
+        if "port" not in words and its.db != DESK:
+            raise NotSetUp(
+                f"{FOLDER}: {its.line} names no port, and {PORT} is that of {DESK}: write port = N"
+                " into its file"
+            )
     return found
-
-
-def elsewhere() -> list[Places]:
-    """The lines that are set up as those of other machines: only their names and URLs count."""
-    return [of_words(words) for words in files() if is_elsewhere(words)]
 
 
 @functools.cache
@@ -121,10 +109,6 @@ def want_no_two(name: str, values: list[str]) -> None:
         )
 
 
-def is_elsewhere(words: dict[str, str]) -> bool:
-    return words.get("url", "").startswith(BY_SSH)
-
-
 def words_in(path: Path) -> dict[str, str]:
     """The words of a set-up file."""
     reader = configparser.RawConfigParser(delimiters="=", comment_prefixes="#")
@@ -144,61 +128,27 @@ def words_in(path: Path) -> dict[str, str]:
     words = dict(reader[SECTION])
     if wrong := [name for name in words if not is_word(name, words[name])]:
         raise NotSetUp(
-            f"{path}: {', '.join(wrong)} is none of {', '.join(WORDS)}, has no value, or is no "
-            "whole path, which begins with /"
+            f"{path}: {', '.join(wrong)} is none of {', '.join(WORDS)}, has no value, is no whole "
+            "path, or is a db other than /FOLDER/desk in a folder of the line's own"
         )
     if "line" not in words:
         raise NotSetUp(f"{path} names no line: write line = LINE into it, or take it away")
-    if is_elsewhere(words) and (more := [*words.keys() - {"line", "url"}]):
-        raise NotSetUp(
-            f"{path}: {', '.join(sorted(more))} is of a line on this machine, and its URL says that"
-            " it is on another one: take the words away, or the URL"
-        )
     return words
 
 
 def is_word(name: str, value: str) -> bool:
     if name == "port" and not value.isdecimal():
         return False
+    if name == "db" and not is_in_a_folder(Path(value)):
+        return False
     return name in WORDS and value != "" and (name not in PATHS or value.startswith("/"))
 
 
-def of_desk(db: Path, those: Iterable[Places] | None = None) -> Places:
-    """The places of the line with this desk: of its set-up file, or next to the desk if it has
-    none.
-    """
-    for its in lines() if those is None else those:
-        if os.path.realpath(its.db) == os.path.realpath(db):
-            return its
-    return of_words({"db": str(db)})
-
-
-def of_archive(archive: Path, those: Iterable[Places] | None = None) -> Places:
-    """The same of the line with this archive. Without a set-up file the desk is next to the
-    archive's folder.
-    """
-    for its in lines() if those is None else those:
-        if os.path.realpath(its.archive) == os.path.realpath(archive):
-            return its
-    return dataclasses.replace(of_words({"db": str(archive.parent / DESK.name)}), archive=archive)
+def is_in_a_folder(db: Path) -> bool:
+    """Whether a desk has a folder that can be its line's."""
+    return db.name == DESK.name and db.parent.name != ""
 
 
 def all_of(archive: Path) -> list[Places]:
     """The places of the lines that are set up with this archive."""
     return [it for it in lines() if os.path.realpath(it.archive) == os.path.realpath(archive)]
-
-
-# --- For the proxy, which has no other way to know them
-
-PROXY = FOLDER / "proxy"  # what packaging/nginx.conf includes
-MAPS = {"inbox.map": "inbox", "status.map": "status"}
-
-
-def maps_for_the_proxy(its: Places) -> dict[str, str]:
-    """The files that the proxy's site includes, and their texts."""
-    for name in MAPS.values():
-        if set('"\\$') & set(str(getattr(its, name))):
-            raise NotSetUp(
-                f'{name} = {getattr(its, name)}: the proxy takes no path with ", \\ or $'
-            )
-    return {file: f'"" "{getattr(its, name)}";\n' for file, name in MAPS.items()}

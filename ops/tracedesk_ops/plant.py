@@ -17,14 +17,12 @@ import time
 from collections.abc import Callable, Iterator
 from typing import Any
 
-from tracedesk_ops import catalogue, copies, files, heads, places, sealed, store
+from tracedesk_ops import catalogue, copies, files, places, sealed
 
 NAME = pathlib.Path(sys.argv[0]).name
 SECONDS_A_MILLION = 19  # of a start, for a million placed pieces: docs/figures.md, "A file's start"
-# seconds without a connection, after which nobody waits for an answer any more;
-# ops/tests/evidence-faults is in a hurry
+# seconds without a connection, after which nobody waits for an answer; tests are in a hurry
 QUIET = float(os.environ.get("TRACEDESK_QUIET", 1))
-LONGEST_OTHER = 3600  # seconds that another roll-over or backup may take
 PATIENCE = 120  # seconds that a start may take beside what the pieces ask for
 NEXT = "\n"
 LIBC, PR_SET_PDEATHSIG = ctypes.CDLL(None), 1
@@ -44,7 +42,6 @@ FAULTS = (
     Fault,
     catalogue.CatalogueError,
     places.NotSetUp,
-    store.LineFault,
     sealed.FilesFault,
     copies.InUse,
     OSError,
@@ -104,13 +101,6 @@ def chain_of(program: str) -> str | None:
     return next(filter(None, map(shutil.which, [named] if named else beside)), None)
 
 
-def tell_fault(fault: BaseException, *kinds: type[BaseException]) -> None:
-    """Tells a fault, and before it the one in whose handling it came."""
-    for it in (fault.__context__, fault):
-        if isinstance(it, (*FAULTS, *kinds)):
-            tell(str(it) or "it was interrupted")
-
-
 def ends_by_exception() -> None:
     """Lets SIGTERM and SIGHUP end the tool as a fault does, so that all is put back."""
     numbers = signal.SIGTERM, signal.SIGHUP
@@ -126,36 +116,16 @@ def ends_by_exception() -> None:
         signal.signal(number, end)
 
 
-@contextlib.contextmanager
-def alone(db: pathlib.Path) -> Iterator[None]:
-    """Holds the desk's folder, once no other tool has it that changes a desk, its archive or its
-    copies.
-    """
-    with folder_lock(db) as take:
-        wait_for_lock(take, LONGEST_OTHER, f"another roll-over or backup of {db} is running")
-        yield
-
-
 def want_one_name(db: pathlib.Path) -> None:
     """Stops if the desk is gone, or has a second name: no run opens such a file."""
     if not db.exists():
-        raise Fault(f"{db} is gone: mount its disk, or call tracedesk-backup --restore")
+        raise Fault(f"{db} is gone: mount its disk, or restore a sealed file")
     if (names := db.stat().st_nlink) > 1:
         raise Fault(
             f"{db} has {names} names, as a snapshot of hard links gives it, and no run opens such a"
             f" file: remove the others, which find {db.parent.parent} -xdev -samefile {db} prints,"
             " before the service is restarted"
         )
-
-
-@contextlib.contextmanager
-def folder_lock(db: pathlib.Path) -> Iterator[Callable[[], None]]:
-    """What takes the one lock of a desk's folder, or raises a BlockingIOError."""
-    folder = os.open(db.parent, os.O_RDONLY | os.O_DIRECTORY)
-    try:
-        yield lambda: fcntl.flock(folder, fcntl.LOCK_EX | fcntl.LOCK_NB)
-    finally:
-        os.close(folder)
 
 
 @contextlib.contextmanager
@@ -275,7 +245,7 @@ def start_seconds(pieces: int) -> int:
 
 def without_log(file: pathlib.Path) -> None:
     """Takes the empty log away that a run left beside a file."""
-    if log := store.log_of(file):
+    if log := copies.log_of(file):
         raise Fault(f"{log} holds something after a run that ended well")
     for tail in catalogue.LOGS:
         pathlib.Path(f"{file}{tail}").unlink(missing_ok=True)
@@ -332,16 +302,3 @@ class Program:
                 " docs/operations.md, 'What is said, and what to do'"
             )
         return int(lawful[1])
-
-    def give_heads(self, db: pathlib.Path, uids: list[str]) -> None:
-        """Gives heads to a desk that no run has open, and that has accepted something."""
-        done = self.run(
-            "feed",
-            "--db",
-            db,
-            input="".join(f"{heads.message(uid)}\n" for uid in uids),
-            capture_output=True,
-            **TEXT,
-        )
-        if done.stdout.count('"Answer":"Accepted"') != len(uids):
-            raise Fault(f"{db} takes no head: {' '.join((done.stdout + done.stderr).split())}")

@@ -12,7 +12,7 @@ import pathlib
 from collections.abc import Iterator
 
 from tracedesk import records
-from tracedesk_ops import attributes, places, untraced
+from tracedesk_ops import attributes, untraced
 
 FOLDER, FILES = "scans", "receipts-*.jsonl"
 TAKEN = "200"  # the status of the answer Accepted
@@ -50,7 +50,7 @@ class Receipts:
 
     def __init__(self, archive: pathlib.Path) -> None:
         self.archive = archive
-        self.folder = places.of_archive(archive).inbox.parent / FOLDER
+        self.folder = archive.with_name(FOLDER)
         self.read: dict[str, int] = {}  # bytes of each file
 
     def collect(self) -> int:

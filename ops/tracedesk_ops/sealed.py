@@ -61,6 +61,7 @@ class Sealed:
     begun: str  # the digits of the file from which its desk was begun; empty if there is none
     commands: int
     entries: int  # of its book
+    sha256: str = ""  # all of it, or the digits in the name if that is believed
 
     @property
     def rows(self) -> int:
@@ -93,7 +94,7 @@ def paths_in(folder: Path) -> list[Path]:
         raise Damaged(f"{folder} can't be read: {fault.strerror}") from fault
 
 
-def read(path: Path) -> Sealed:
+def read(path: Path, believes_name: bool = False) -> Sealed:
     """What a file says of itself, once all of it was compared with its name."""
     try:
         if not path.is_file():
@@ -104,17 +105,28 @@ def read(path: Path) -> Sealed:
                 " take that away; of a file in lost/ move both elsewhere, once its senders have"
                 " sent again"
             )
-        digits = digits_of(path)
-        if path.name != name_of(digits):
+        sha256 = path.stem if believes_name else files.sha256_of(path)
+        if path.name != name_of(sha256[:DIGITS]):
             raise Damaged(
-                f"{path} was changed, or has another file's name: its SHA-256 begins with {digits}."
-                " Take it away, and take that file from a mirror"
+                f"{path} was changed, or has another file's name: its SHA-256 begins with"
+                f" {sha256[:DIGITS]}. Take it away, and take that file from a mirror"
             )
-        with opened(path) as database:
-            commands, entries = (size(database, its) for its in LISTS)
-            return Sealed(path, digits, begun_from(database), commands, entries)
+        return read_of(path, sha256)
     except (OSError, sqlite3.Error) as fault:
         raise Damaged(f"{path} can't be read: {fault}") from fault
+
+
+def named(path: Path) -> Sealed:
+    """The same of a file whose name is believed, for who looks often; each seal compares it."""
+    return read(path, believes_name=True)
+
+
+def read_of(path: Path, sha256: str) -> Sealed:
+    """What a file with this checksum says of itself."""
+    with opened(path) as database:
+        commands, entries = (size(database, its) for its in LISTS)
+        begun = begun_from(database)
+        return Sealed(path, sha256[:DIGITS], begun, commands, entries, sha256)
 
 
 def uri_of(path: Path) -> str:
@@ -160,6 +172,12 @@ def begun_from(database: sqlite3.Connection) -> str:
     rows = database.execute("SELECT uid FROM accepted WHERE number = 1").fetchall()
     found = BEGUN.fullmatch(rows[0][0]) if rows else None
     return found[1] if found else ""
+
+
+def begun_in(path: Path) -> str:
+    """The same of a file."""
+    with opened(path) as database:
+        return begun_from(database)
 
 
 def begun_with(database: sqlite3.Connection, digits: str, schema: str) -> int:

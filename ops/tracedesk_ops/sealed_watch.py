@@ -15,16 +15,24 @@ Samples = Iterator[tuple[str, float, dict[str, str]]]
 FUTURE = 300  # seconds that a clock may have been set back
 PIECES = "SELECT coalesce(sum(placed), 0) FROM reel"
 LAST_MINUTE = "SELECT max(effective) FROM accepted"
+LAST_UID = "SELECT uid FROM accepted ORDER BY number DESC LIMIT 1"
 
 
-def newest(folder: Path) -> Samples:
-    """When the desk was sealed last, and what that file has."""
+def newest(folder: Path, has: Callable[[str], bool]) -> Samples:
+    """When the desk was sealed last, and what that file has. `has` says whether the running desk
+    has a UniqueID: another desk's file says nothing of its age.
+    """
     if not (paths := sealed.paths_in(folder)):
         return
     times = {path: path.stat().st_mtime for path in paths}
     path = max(paths, key=times.__getitem__)
     if times[path] > time.time() + FUTURE:
         raise plant.Fault(f"{path} was sealed in the future: a clock is wrong, or was; set it")
+    if not (has(last_uid(path)) or has(model.first_uid(path.stem))):
+        raise plant.Fault(
+            f"{path} isn't the running desk's: it is another desk's, or this one was set back. Call"
+            " tracedesk-ops check"
+        )
     yield "backup_timestamp_seconds", int(times[path]), {}
     yield "backup_commands", commands_in(path), {}
     yield "backup_pieces", number_in(path, PIECES), {}
@@ -35,7 +43,7 @@ def archives(folder: Path, has: Callable[[str], bool]) -> Samples:
     UniqueID.
     """
     paths = {path.stem: path for path in sealed.paths_in(folder)}
-    begun = {begun_in(path) for path in paths.values()} - {""}
+    begun = {sealed.begun_in(path) for path in paths.values()} - {""}
     begun |= {digits for digits in paths if digits not in begun and has(model.first_uid(digits))}
     if has(model.BEGUN) and not any(has(model.first_uid(digits)) for digits in begun):
         raise plant.Fault(f"{folder} lacks the file from which the running desk was begun")
@@ -49,14 +57,14 @@ def archives(folder: Path, has: Callable[[str], bool]) -> Samples:
     yield "archive_pieces", sum(number_in(path, PIECES) for path in those), {}
 
 
-def begun_in(path: Path) -> str:
-    with sealed.opened(path) as database:
-        return sealed.begun_from(database)
-
-
 def commands_in(path: Path) -> int:
     with sealed.opened(path) as database:
         return sealed.size(database, sealed.HISTORY)
+
+
+def last_uid(path: Path) -> str:
+    with sealed.opened(path) as database:
+        return str(copies.rows(database, LAST_UID)[0][0])
 
 
 def number_in(path: Path, query: str) -> int:

@@ -11,10 +11,9 @@ from __future__ import annotations
 
 import os
 import pathlib
-import secrets
 from collections.abc import Callable
 
-from tracedesk_ops import copies, files, heads, held, lineage, model, plant, sealed, stored
+from tracedesk_ops import copies, files, heads, held, lineage, plant, sealed
 from tracedesk_ops.line import LineFolder
 from tracedesk_ops.lineage import Lineage
 from tracedesk_ops.sealed import FilesFault, Sealed
@@ -60,18 +59,10 @@ def copied_running(desk: Path, port: int, to: Path, audit: Audit) -> None:
     """
     if not port:
         raise NotSealed(f"{desk} runs, and nothing says on which port it answers: say by --port")
-    if not has_minute(port):
+    if not heads.has_minute(port):
         raise NotSealed(f"{desk} has accepted nothing, so there is nothing to seal")
     held.lawful(desk, port, held.new_marker, to, audit)
     plant.without_log(to)
-
-
-def has_minute(port: int) -> bool:
-    """Whether a desk has accepted something. The first command of one sets its minute."""
-    name = f"none-{secrets.token_hex(16)}"
-    body = {"Machine": name, "Slot": "-"}
-    question = stored.line(name, model.SOURCE, heads.LAST_MINUTE, "MaterialsUnloaded", body)
-    return heads.said(port, question).get("Refusal") == "TooFarAhead"
 
 
 def copied_stopped(desk: Path, to: Path, audit: Audit) -> None:

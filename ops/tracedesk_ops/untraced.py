@@ -3,8 +3,8 @@ each. For ops/tracedesk-untraced, ops/tracedesk-recall and those that copy a lin
 loads, splices and unloads have records too, but nobody has to decide about them: a recall says
 which pieces they make doubtful (doubtful.py).
 
-Senders put records into the line's inbox (places.py). `collect` appends each of them to
-`untraced.csv`, beside the catalogue, once:
+Senders put records into the line's folder `untraced`. `collect` appends each of them to
+`untraced.csv`, next to the sealed files, once:
 
     id,kind,at,machine,board,what,refusal,place,source,by,of,became,reason,record,chain
 
@@ -27,9 +27,9 @@ from collections.abc import Iterable
 from typing import Any, NamedTuple
 
 from tracedesk import records as sent
-from tracedesk_ops import catalogue, files, heads, inboxes, places, plant
+from tracedesk_ops import catalogue, files, heads, inboxes, model, plant
 
-FILE_NAME, INBOX, COLLECTED, STATUS = "untraced.csv", "untraced", "collected.json", "untraced.json"
+FILE_NAME, COLLECTED, STATUS = "untraced.csv", "collected.json", "untraced.json"
 HEADER = tuple(
     "id kind at machine board what refusal place source by of became reason record chain".split()
 )
@@ -94,8 +94,8 @@ def has_texts(told: Any, kind: str, *names: str) -> bool:
 
 
 def inbox_of(archive: pathlib.Path) -> pathlib.Path:
-    """The inbox of the line whose archives, and catalogue, are in that folder."""
-    return places.of_archive(pathlib.Path(archive)).inbox
+    """The inbox of the line whose sealed files are in that folder."""
+    return archive.with_name(model.INBOX)
 
 
 def said(record: Record) -> list[str]:

@@ -1,8 +1,6 @@
 """Clocks that jump, a tablet that slept, disks that fail, a desk that is slow or begun anew."""
 import concurrent.futures
 import re
-import subprocess
-import sys
 import time
 from typing import Any
 
@@ -12,7 +10,8 @@ from station_costs import KITS, PERIODS, days
 from station_line import shown_rows
 from station_operator import Operator
 from station_plant import CLOCKS, DISK, count_is, opened, refused, whole
-from station_site import ROOT, SETUP, Site, wait_for
+from station_site import SETUP, Site, wait_for
+from tracedesk_dev import begun
 from tracedesk_dev.trial import Difference
 
 pytestmark = pytest.mark.browser
@@ -181,13 +180,7 @@ def test_a_scan_over_a_roll_over(site: Site) -> None:
         archive = (site.room / "desk").rename(site.room / "archive")
         if (log := site.room / "desk-wal").exists():
             log.rename(site.room / "archive-wal")
-        site.feed(
-            subprocess.run(
-                [sys.executable, ROOT / "ops/tracedesk-begin", archive],
-                check=True,
-                capture_output=True,
-            ).stdout.splitlines()
-        )
+        site.feed(begun.messages_of(archive))
         site.start_desk()
         site.start_nginx()
         answers = [scan["answer"] for scan in whole(site, it, 2)]

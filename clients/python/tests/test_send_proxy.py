@@ -26,7 +26,7 @@ from proxy_lab import (
     served,
     turns_away,
 )
-from tracedesk_dev import ROOT
+from tracedesk_dev import begun
 
 
 def test_what_is_no_answer_is_tried_again(program: pathlib.Path, tmp_path: pathlib.Path) -> None:
@@ -154,7 +154,7 @@ def test_the_longest_message_passes(program: pathlib.Path, tmp_path: pathlib.Pat
 def test_a_message_of_the_archive_does_not_act_again(
     program: pathlib.Path, tmp_path: pathlib.Path
 ) -> None:
-    """It is accepted, its answer lost, and the desk begun anew by tracedesk-begin."""
+    """It is accepted, its answer lost, and the desk begun anew."""
     parts(tmp_path, 3)
     words: list[Any] = [sys.executable, SENDER, "--spool", tmp_path / "spool"]
     subprocess.run([*words, "--put", tmp_path / "messages"], check=True, capture_output=True)
@@ -170,13 +170,8 @@ def test_a_message_of_the_archive_does_not_act_again(
     assert list(texts_in(tmp_path / "spool", "waiting")) == ["000000000002", "000000000003"]
     for file in tmp_path.glob("desk*"):  # with its log
         file.rename(tmp_path / file.name.replace("desk", "archive"))
-    begun = subprocess.run(
-        [sys.executable, ROOT / "ops/tracedesk-begin", tmp_path / "archive"],
-        stdout=subprocess.PIPE,
-        stderr=subprocess.DEVNULL,
-        check=True,
-    ).stdout
-    killed.fed(program, tmp_path / "desk", begun)
+    said = b"\n".join([*begun.messages_of(tmp_path / "archive"), b""])
+    killed.fed(program, tmp_path / "desk", said)
     with served(program, tmp_path) as port:
         done = subprocess.run(
             [*words, "--url", f"http://127.0.0.1:{port}"],

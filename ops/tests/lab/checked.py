@@ -1,4 +1,4 @@
-"""A desk's file to which something was done, and what tracedesk-check says of that."""
+"""A desk's file to which something was done, and what a check says of that."""
 import os
 import pathlib
 import shutil
@@ -6,8 +6,7 @@ from typing import Callable
 
 from lab import ROOT
 from lab.desk import Desk, change
-from lab.here import call_here
-from lab.tools import Ended, Word, run, tool
+from tracedesk_ops import check, plant
 
 MESSAGES = ROOT / "cases/tables_that_were_altered/messages.jsonl"  # each table has a row
 
@@ -45,29 +44,21 @@ class Checked:
             for path in self.file.parent.rglob("*")
         }
 
-    def check(self, *words: Word) -> Ended:
-        """A check of the file, in this process."""
-        return self.unchanged(lambda: call_here("check", self.file, *self.rest(*words)))
+    def check(self) -> list[str]:
+        """Why the program can't run over the file."""
+        program = plant.Program(str(self.program), self.file)
+        return self.unchanged(lambda: check.hindrances(self.file, program.audit))
 
-    def check_apart(self, *words: Word, program: "pathlib.Path | None" = None) -> Ended:
-        """A check of the file in a process of its own."""
-        rest = self.rest(*words, program=program)
-        return self.unchanged(lambda: run([tool("check"), self.file, *rest]))
-
-    def rest(self, *words: Word, program: "pathlib.Path | None" = None) -> list[Word]:
-        return ["--program", program or self.program, *words]
-
-    def unchanged(self, check: Callable[[], Ended]) -> Ended:
-        """How a check ends; nothing in the file's folder may be another afterwards."""
+    def unchanged(self, call: Callable[[], list[str]]) -> list[str]:
+        """What a check says; nothing in the file's folder may be another afterwards."""
         was = self.held()
-        done = check()
-        assert self.held() == was, f"the file, its log or its folder was changed: {done.said}"
-        return done
+        said = call()
+        assert self.held() == was, f"the file, its log or its folder was changed: {said}"
+        return said
 
-    def expect(self, status: int, *texts: str) -> Ended:
-        """A check that ends with this status and says these texts, a verdict on standard output
-        alone.
-        """
-        done = self.check().expect(status, *texts)
-        assert not (done.out if status > 1 else done.err)
-        return done
+    def expect(self, *texts: str) -> None:
+        """A check that says these texts, or nothing."""
+        said = self.check()
+        assert bool(said) == bool(texts), said
+        for text in texts:
+            assert text in "\n".join(said), said

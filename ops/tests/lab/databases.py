@@ -13,16 +13,11 @@ from lab.tools import Ended, Word, run, run_tool
 from tracedesk_dev import packages, postgres
 
 SQL = postgres.SQL
-EXTENSIONS = pathlib.Path("/usr/share/postgresql")
 
 
-def skip_without(*extensions: str) -> None:
-    """Skips the test if there is no PostgreSQL, or none with these extensions."""
-    why = packages.lacking("initdb", "psql", "python:psycopg")
-    for name in extensions:
-        if not list(EXTENSIONS.glob(f"*/extension/{name}.control")):
-            why = why or f"there is no {name}: apt-get install postgresql-15-{name}"
-    if why:
+def skip_without() -> None:
+    """Skips the test if there is no PostgreSQL."""
+    if why := packages.lacking("initdb", "psql", "python:psycopg"):
         pytest.skip(why)
 
 
@@ -112,11 +107,10 @@ class Database:
 
 
 def create(server: postgres.Server, name: str, schema: str = "schema", more: str = "") -> Database:
-    """A new database, with the tables of the plant, of the company, or none."""
+    """A new database, with the tables of the plant or none."""
     Database(server, "postgres").psql("-c", f"CREATE DATABASE {name} {more}")
     made = Database(server, name)
-    if schema:
+    if schema:  # copies of tests have the names of other days
         made.psql("-f", SQL / f"{schema}.sql")
-    if schema == "schema":  # copies of tests have the names of other days
         made.change("ALTER TABLE line ALTER oldest SET DEFAULT '100 years'")
     return made

@@ -5,11 +5,10 @@ from __future__ import annotations
 
 import contextlib
 import pathlib
-import shutil
 import sqlite3
 from collections.abc import Iterable, Iterator
 
-from tracedesk_ops import model, store
+from tracedesk_ops import model
 
 # docs/definitions.md, "The tables of a desk's file"
 TABLES = """
@@ -61,66 +60,6 @@ def accept(path: pathlib.Path, uids: Iterable[str]) -> None:
     with opened(path) as database:
         for uid in uids:
             last = database.execute("SELECT coalesce(max(number), 0) FROM accepted").fetchone()[0]
-            is_head = uid.partition("-")[0] in model.KINDS
+            is_head = uid.partition("-")[0] in model.BOOKS
             said = (model.SOURCE, "ClockSet") if is_head else ("S", f"PartDefined\t{uid}")
             database.execute(INSERT, [last + 1, uid, said[0], last + 1, said[1]])
-
-
-def line(folder: pathlib.Path, uids: Iterable[str] = (), name: str = "L1") -> model.Line:
-    """A line with a desk in a folder."""
-    made = model.Line(name, folder / "desk", folder / "archive")
-    desk(made.desk, uids)
-    return made
-
-
-def roll_over(it: model.Line, name: str = "") -> None:
-    """What tracedesk-rollover does, once its new desk was compared with the old one."""
-    room = store.emptied(it)
-    shutil.copyfile(it.desk, room / "old")
-    digits = store.sha256_of(room / "old")[: model.DIGITS]
-    desk(room / "new", store.Reader().desk(it.desk).heads.uids(), mark=digits)
-    store.filed(it, room / "old", name or f"{it.name}-{digits}")
-    store.placed(it.desk, room / "new")
-    store.settled(it, store.Reader())
-
-
-def copy(it: model.Line, to: pathlib.Path) -> pathlib.Path:
-    """A copy of a line: its desk and its archive."""
-    to.mkdir()
-    shutil.copyfile(it.desk, to / "desk")
-    if it.archive.exists():
-        shutil.copytree(it.archive, to / "archive")
-    return to
-
-
-def restore(it: model.Line, copied: pathlib.Path, stamp: str = "2026-11-25T061203Z") -> None:
-    """What tracedesk-backup --restore does, once the copy was audited."""
-    room, reader = store.emptied(it), store.Reader()
-    its = model.Line(it.name, copied / "desk", copied / "archive")
-    there = {file.sha256 for file in reader.archives(it)}
-    lacked = [file for file in reader.chain(its).archives if file.sha256 not in there]
-    made = [room / f"{file.path.name}" for file in lacked]
-    for file, path in zip(lacked, made):
-        shutil.copyfile(file.path, path)
-    shutil.copyfile(its.desk, room / it.desk.name)
-    aside = store.aside_folder(it, stamp)
-    store.archives_filed(it, made)
-    store.put_aside(it, aside)
-    store.placed(it.desk, room / it.desk.name)
-    store.settled(it, store.Reader())
-
-
-def taken(it: model.Line) -> list[str]:
-    """The UniqueIDs of senders in all files of the chain."""
-    reader = store.Reader()
-    return sorted(said.uid for file in reader.chain(it).files for said in reader.taken(file))
-
-
-def lacking(it: model.Line) -> int:
-    """How many commands lie off the line's chain and nowhere in it."""
-    return sum(off.lacking for off in store.Reader().off_chain(it))
-
-
-def first_is_missing(it: model.Line) -> bool:
-    """Whether no file of a line is begun by a sender's command, as its first one is."""
-    return all(file.mark for file in store.Reader().archives(it))

@@ -8,7 +8,17 @@ import tempfile
 from typing import Iterator, NamedTuple
 
 from lab import ROOT
-from lab.machine import ARCHIVE, OFFICE, URL, Block, Machine, blocks, booted, is_same, run
+from lab.machine import OFFICE, URL, Block, Machine, blocks, booted, is_same, run
+
+
+ARCHIVES = """python3 -B - <<'END'
+import pathlib, sys
+sys.path.insert(0, "/usr/lib/tracedesk")
+from tracedesk_ops import around, line, sealed
+folder = line.LineFolder(pathlib.Path("/var/lib/tracedesk"))
+print(*(archive.file for archive in around.survey(folder, "L1", sealed.named).archives))
+END
+"""
 
 
 class Packages(NamedTuple):
@@ -90,8 +100,7 @@ def metrics_of(machine: Machine) -> dict[str, str]:
 
 def archives_of(machine: Machine, least: int) -> list[str]:
     """The line's archives, oldest first. The desk is rolled over until there are so many."""
-    names = f"tail -n +2 {ARCHIVE}/catalogue.csv | cut -d , -f 1"
-    while len(files := machine.shell(names).split()) < least:
+    while len(files := machine.shell(ARCHIVES).split()) < least:
         assert machine.post(f"more-{len(files)}") == "200"
-        machine.restart("tracedesk-rollover 2>&1")
+        machine.restart("tracedesk-ops rollover L1 2>&1")
     return files

@@ -1,4 +1,4 @@
-"""A line: a desk that is served, with its archives and copies, and the tools' words for it."""
+"""A line: a desk that is served, with its sealed files, and the tools' words for it."""
 import collections
 import csv
 import io
@@ -9,7 +9,8 @@ from lab import messages
 from lab.desk import Desk, rows_of
 from lab.tools import KILL_AFTER, Ended, Word, run, run_tool, tool
 from lab.waits import PATIENCE
-from tracedesk_ops import around, backups, catalogue, store
+from tracedesk_ops import around, catalogue, lineage, sealed
+from tracedesk_ops.line import LineFolder
 
 QUIET = "0.1"  # seconds without a connection, after which tools take senders for gone
 OWN_COMMANDS = """SELECT uid FROM accepted WHERE source <> 'tracedesk' AND number >
@@ -31,34 +32,37 @@ class Line(Desk):
     ) -> None:
         super().__init__(program, folder / desk, port)
         self.folder, self.name = folder, name
-        self.archive, self.copies = folder / "archive", folder / "copies"
-        self.catalogue = self.archive / catalogue.FILE_NAME
+        self.archive = folder / "sealed"
         self.drained, self.proxy_port = folder / "drained", 1  # nothing answers on port 1
 
     # --- The tools
 
     def service(self, program: Optional[pathlib.Path] = None) -> list[Word]:
-        """The words of each tool that stops and starts the service."""
+        """The words of a tool that stops and starts the service."""
         return [
-            *("--db", self.file, "--program", program or self.program),
-            *("--stop", self.stop_command, "--start", self.start_script, "--port", self.port),
+            *("--program", program or self.program, "--port", self.port),
+            *("--stop", self.stop_command, "--start", self.start_script),
             *("--drained", self.drained, "--drain-seconds", PATIENCE),
             *("--proxy-port", self.proxy_port),
         ]
 
+    def ops(self, name: str, *more: Word) -> list[Word]:
+        return [tool("ops"), name, self.folder, "--program", self.program, *more]
+
     def rollover_words(self, *more: Word, program: Optional[pathlib.Path] = None) -> list[Word]:
-        return [tool("rollover"), *self.service(program), "--line", self.name, *more]
+        return [tool("ops"), "rollover", self.folder, *self.service(program), *more]
 
     def rollover(self, *more: Word, program: Optional[pathlib.Path] = None, **how: Any) -> Ended:
-        """Calls tracedesk-rollover; `how` are the last three arguments of `call`."""
+        """Calls tracedesk-ops rollover; `how` are the last three arguments of `call`."""
         return self.call(self.rollover_words(*more, program=program), program, **how)
 
-    def backup(self, *more: Word, program: Optional[pathlib.Path] = None, **how: Any) -> Ended:
-        words = [tool("backup"), *self.service(program), "--to", self.copies, *more]
-        return self.call(words, program, **how)
+    def seal(self, **how: Any) -> Ended:
+        return self.call(self.ops("seal", "--port", self.port), **how)
 
-    def settle(self, *more: Word) -> Ended:
-        return self.call([tool("settle"), *self.service(), *more])
+    def restore(self, *more: Word, **how: Any) -> Ended:
+        """Restores a sealed file while the service is stopped."""
+        with self.stopped():
+            return self.call(self.ops("restore", *more), **how)
 
     def call(
         self,
@@ -75,38 +79,29 @@ class Line(Desk):
         return run(words, env={**own, **(env or {})}, limit=limit)
 
     def recall_words(self) -> list[Word]:
-        return ["--line", self.name, self.url, self.catalogue]
+        return ["--line", self.name, self.url, self.folder]
 
     def recall(self, *more: Word, lot: str = "L1") -> Ended:
         """Recalls a lot over the archives and the running desk."""
         return run_tool("recall", "lot", lot, *self.recall_words(), *more)
 
-    def recall_archives(self, lot: str = "L1") -> Ended:
-        """Recalls a lot over the archives alone."""
-        line: list[Word] = ["--line", self.name, "-", self.catalogue]
-        return run_tool("recall", "lot", lot, "--archives-only", *line)
-
     # --- What is there
 
     def archives(self) -> list[catalogue.Archive]:
         """The archives, the oldest first."""
-        reader = store.Reader(believes_names=True, without_logs=True)
-        return around.Folder(self.archive, [self.name], [self.file], reader).survey().archives
+        return around.survey(LineFolder(self.folder), self.name, sealed.named).archives
 
     def archive_file(self, number: int = -1) -> pathlib.Path:
         """The file of an archive, by its place in the chain."""
-        return pathlib.Path(catalogue.path_of(self.catalogue, self.archives()[number]))
-
-    def kept(self) -> list[pathlib.Path]:
-        """All copies, the oldest first."""
-        return list(backups.kept_in(self.copies))
+        return catalogue.path_of(self.folder, self.archives()[number])
 
     def newest(self) -> pathlib.Path:
-        return self.kept()[-1]
+        """The newest sealed file."""
+        return lineage.of(LineFolder(self.folder)).chain[-1].path
 
     def files(self) -> list[pathlib.Path]:
         """The files of all archives, and of the running desk."""
-        return [*(catalogue.path_of(self.catalogue, it) for it in self.archives()), self.file]
+        return [*(catalogue.path_of(self.folder, it) for it in self.archives()), self.file]
 
     def uids(self) -> "collections.Counter[str]":
         """The UniqueIDs of all commands that no roll-over made, and how many desks have each."""
@@ -122,15 +117,10 @@ class Line(Desk):
 
     def expect_tidy(self, *also: str, answers: bool = True) -> None:
         """Whenever no tool is on its way nothing else lies in the folder, and the desk answers."""
-        own = {self.archive.name, self.copies.name, *also}
+        own = {self.archive.name, "lost", *also}
         own |= {f"{self.file.name}{tail}" for tail in ("", "-wal", "-start", "-pid")}
         others = {path.name for path in self.folder.iterdir()} - own
         assert not others, f"there are also {others}"
-        listed = {archive.file for archive in self.archives()} | {catalogue.FILE_NAME, "aside"}
-        there = {path.name for path in self.archive.glob("*")}
-        assert (
-            there <= listed
-        ), f"the archive has {there - listed}, which the catalogue doesn't list"
         assert not answers or self.answers(), "the desk does not answer"
 
     def more(self, *names: str) -> None:

@@ -78,7 +78,7 @@ JSON = "-H Content-Type:application/json"
 URL = "https://desk.plant"
 M1 = "--user m1:$(cat /etc/tracedesk/m1.password)"
 OFFICE = "--user office:$(cat /etc/tracedesk/office.password)"
-ARCHIVE, COPIES = "/var/lib/tracedesk/archive", "/var/backups/tracedesk"
+ARCHIVE = "/var/lib/tracedesk/sealed"
 
 
 class Block(NamedTuple):

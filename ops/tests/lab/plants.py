@@ -1,7 +1,10 @@
 """Lines that tools roll over and copy while they are served, and what databases have of them."""
 from __future__ import annotations
 
+import calendar
+import os
 import pathlib
+import shutil
 from typing import Sequence
 
 from lab.databases import Database
@@ -21,7 +24,13 @@ Rows = list[tuple[str, ...]]
 
 
 class WorkedLine(Line):
-    """A line whose desk is rolled over and copied by the tools, while it is served."""
+    """A line whose desk is rolled over and sealed by the tools, while it is served. `kept` are
+    mirrors of its folder, one behind each seal, of a day each.
+    """
+
+    def __init__(self, program: pathlib.Path, folder: pathlib.Path, name: str) -> None:
+        super().__init__(program, folder, name)
+        self.mirrors = folder.with_name(f"{folder.name}-mirrors")
 
     def work(self, parts: Sequence[bytes]) -> None:
         """Posts the parts of a shift. The desk is rolled over between two of them."""
@@ -33,22 +42,28 @@ class WorkedLine(Line):
         self.copy()
 
     def copy(self, status: int = 0) -> pathlib.Path:
-        """Copies the desk; 4 says that an older copy has commands that the desk lacks. A copy has
-        its name by the second, so each gets a day of its own.
+        """Seals the desk, and copies the folder to a new mirror; 4 says that senders have to send
+        again.
         """
-        before = set(self.kept())
-        self.backup().expect(status)
-        (new,) = set(self.kept()) - before
-        return new.rename(new.with_name(f"2026-03-0{len(before) + 1}T060000Z"))
+        self.seal().expect(status)
+        number = len(self.kept()) + 1
+        day = calendar.timegm((2026, 3, number, 6, 0, 0))
+        os.utime(max(self.archive.glob("*.desk"), key=os.path.getmtime), (day, day))
+        mirror = self.mirrors / f"{number}/{self.name}"
+        shutil.copytree(self.folder, mirror, ignore=shutil.ignore_patterns("desk*", "drained"))
+        return mirror
+
+    def kept(self) -> list[pathlib.Path]:
+        return sorted(self.mirrors.glob("*/*"))
 
     @property
     def last(self) -> pathlib.Path:
-        return self.newest() / "desk"
+        return self.newest()
 
     @property
     def archived(self) -> list[pathlib.Path]:
-        """The archives' files, the oldest first."""
-        return [catalogue.path_of(self.catalogue, archive) for archive in self.archives()]
+        """The archives' files, oldest first."""
+        return [catalogue.path_of(self.folder, archive) for archive in self.archives()]
 
     def named_files(self) -> dict[str, pathlib.Path]:
         return {**{file.name: file for file in self.archived}, RUNNING: self.last}

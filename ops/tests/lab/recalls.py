@@ -38,7 +38,7 @@ class Asked(Protocol):
 
     name: str
     program: pathlib.Path
-    catalogue: pathlib.Path
+    folder: pathlib.Path
 
     @property
     def last(self) -> pathlib.Path:
@@ -89,8 +89,8 @@ def state_of(world: World) -> dict[pathlib.Path, tuple[bytes, int]]:
 
 def copied(line: Asked, folder: pathlib.Path) -> list[Word]:
     """A copy of a line's archives in a folder of this name, and the words of a recall over it."""
-    shutil.copytree(line.catalogue.parent, folder)
-    return ["--line", line.name, line.url, folder / catalogue.FILE_NAME]
+    shutil.copytree(line.folder / "sealed", folder / "sealed")
+    return ["--line", line.name, line.url, folder]
 
 
 def minutes_of(file: pathlib.Path) -> dict[tuple[str, str], str]:
@@ -104,7 +104,7 @@ class Asking:
 
     def __init__(self, lines: Sequence[Asked], room: pathlib.Path) -> None:
         self.lines, self.room, self.program = lines, room, lines[0].program
-        self.asked = [Line(line.name, line.url, line.catalogue) for line in lines]
+        self.asked = [Line(line.name, line.url, line.folder) for line in lines]
         self.files = [
             (line.name, name, file) for line in lines for name, file in line.named_files().items()
         ]

@@ -26,8 +26,8 @@ def a_record(number: int) -> tuple[str, bytes]:
 
 
 def make_inbox(room: pathlib.Path, many: int = 3) -> pathlib.Path:
-    """A line with so many records in its inbox; the folder of its archives."""
-    archive = room / "archive"
+    """A line with so many records in its inbox; the folder of its sealed files."""
+    archive = room / "sealed"
     for folder in (archive, room / "untraced", room / "status"):
         folder.mkdir(parents=True)
     for number in range(many):

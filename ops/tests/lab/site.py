@@ -24,7 +24,7 @@ class Site(station_site.Site):
         file = self.room / "tracedesk.conf"
         text = file.read_text(encoding="utf-8")
         assert f"{WATCHED}/metrics" in text, f"packaging/nginx.conf has no {WATCHED}/metrics"
-        for name in ("watch", "bin", "archive", "backups"):
+        for name in ("watch", "bin"):
             (self.room / name).mkdir(exist_ok=True)
         file.write_text(text.replace(WATCHED, str(self.room / "watch")), encoding="utf-8")
         self.room.chmod(0o755)

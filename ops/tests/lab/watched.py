@@ -12,6 +12,7 @@ from typing import Any, Iterator
 from lab.site import Site
 from lab.tools import SENDER, Ended, Word, run, tool
 from lab.waits import PATIENCE
+from tracedesk_ops.line import LineFolder
 
 ODD = 'M "3" \\'  # a machine's name
 NAME, NUMBER = r"[a-zA-Z_:][a-zA-Z0-9_:]*", r"[+-]?(?:\d+(?:\.\d*)?(?:[eE][+-]?\d+)?|Inf|NaN)"
@@ -128,7 +129,7 @@ class Watched:
     def __init__(self, site: Site) -> None:
         self.site, self.room = site, site.room
         self.file = self.room / "watch/metrics"
-        self.backups, self.archive = self.room / "backups", self.room / "archive"
+        self.line = LineFolder(self.room)
         self.answer = self.room / "clock.json"  # of the idle clock
         self.said: dict[str, Word] = {
             "to": self.file,
@@ -136,8 +137,6 @@ class Watched:
             "health": f"{site.url}/health",
             "db": self.room / "desk",
             "setup": self.room / "etc/station/setup.json",
-            "archive": self.archive,
-            "backups": self.backups,
             "clock": self.answer,
             "drained": site.drained,
             "timeout": PATIENCE,

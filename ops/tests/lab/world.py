@@ -1,9 +1,9 @@
 """Two lines with archives, which work on some of the same boards.
 
-A shift of line L1 is fed to four desks, each begun with the messages of tracedesk-begin from the
-one before it, at moments at which a board has passed one machine and not the other; an idle desk is
-between two of them. The second archive is without the indexes by reel and by overdue. Line L2 goes
-over once. Both last desks are served.
+A shift of line L1 is fed to four desks, each begun from the one before it, at moments at which a
+board has passed one machine and not the other; an idle desk is between two of them. The second
+archive is without the indexes by reel and by overdue. Line L2 goes over once. Both last desks are
+served.
 """
 import contextlib
 import pathlib
@@ -14,9 +14,9 @@ from typing import Optional
 from lab.desk import log_into_file, rows_of_archive
 from lab.line import Line
 from lab.messages import parts_of
-from lab.tools import Word, call_tool
-from tracedesk_dev import shift
-from tracedesk_ops import catalogue, copies
+from lab.tools import Word
+from tracedesk_dev import begun, shift
+from tracedesk_ops import catalogue, copies, sealed
 
 RUNNING = catalogue.RUNNING
 # indexes on placement that older programs made, and their columns
@@ -38,18 +38,16 @@ class ArchivedLine(Line):
     def archive_it(self, has_indexes: bool = True, later: int = 0) -> None:
         """Archives the desk's file, with or without the indexes that older programs made, and
         begins the next one, so many minutes later."""
-        file = self.archive / f"{self.name}-{len(self.archived) + 1}"
         with contextlib.closing(sqlite3.connect(self.file, isolation_level=None)) as database:
             for name, columns in OLDER_LAYOUT.items():
                 database.execute(f"DROP INDEX IF EXISTS {name}")
                 if has_indexes:
                     database.execute(f"CREATE INDEX {name} ON placement ({', '.join(columns)})")
         log_into_file(self.file)
+        file = self.archive / sealed.name_of(sealed.digits_of(self.file))
         self.file.rename(file)
         ((last,),) = rows_of_archive(file, "SELECT max(effective) FROM accepted")
-        at: list[Word] = ["--at", catalogue.spelled(last + later)] if later else []
-        begun = call_tool("begin", file, *at).expect().out
-        self.feed(begun.encode().splitlines(), statuses=(0,))
+        self.feed(begun.messages_of(file, last + later if later else None), statuses=(0,))
         self.archived.append(file)
 
     def serve(self) -> None:

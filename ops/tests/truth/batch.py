@@ -145,20 +145,20 @@ class Batch:
 
     def copy(self) -> None:
         self.copied = time.time()
-        expect_done(self.place.backup())
+        expect_done(self.place.seal())
         self.counts["copies"] += 1
 
     def restore(self) -> None:
-        """A copy takes the desk's place, and each sender sends again what was accepted since. In
-        that order some of it is refused, and becomes untraced work: so a person moves the old
-        desk elsewhere, as a recall asks for."""
-        expect_done(self.place.backup("--restore"))
+        """A sealed file takes the desk's place, and each sender sends again what was accepted
+        since. In that order some of it is refused, and becomes untraced work: so a person moves the
+        old desk elsewhere, as a recall asks for."""
+        expect_done(self.place.restore())
         for run in self.runs:
             for name in run.in_any_order():
                 run.sources[name].end()
                 run.sources[name].spool.again_since(self.copied - 1)
                 run.send(name)
-        (self.place.archive / "aside").rename(self.place.folder / "moved elsewhere")
+        (self.place.folder / "lost").rename(self.place.folder / "moved elsewhere")
         self.counts["restores"] += 1
 
     def roll_over(self) -> None:
@@ -178,8 +178,7 @@ class Batch:
     def compare(self) -> None:
         """Asks for each lot of each run. The desk stands still by now, so what is the same for all
         of them is looked at once."""
-        path = self.place.catalogue
-        self.line = Line(LINE, self.place.url, path)
+        self.line = Line(LINE, self.place.url, self.place.folder)
         self.chain = AskedOnce(str(self.place.program))
         looked = LookedOnce()
         with contextlib.ExitStack() as held:
@@ -250,7 +249,7 @@ class Batch:
         """Prints what the files have of a run's machine, what was refused, and what really
         happened."""
         files = {
-            archive.file: catalogue.path_of(self.place.catalogue, archive)
+            archive.file: catalogue.path_of(self.place.folder, archive)
             for archive in self.place.archives()
         }
         print(f"--- {run.name}")
@@ -281,7 +280,7 @@ def told_by_sql(at: Callable[..., Any]) -> Callable[..., Any]:
 
 
 class LookedOnce:
-    """What is around the catalogue: it is looked at once, and each run is told what is of its
+    """What is around the line's files: it is looked at once, and each run is told what is of its
     machine."""
 
     def __init__(self) -> None:

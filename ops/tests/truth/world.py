@@ -84,7 +84,7 @@ class Place(Line):
         super().__init__(program, folder)
         self.untraced, self.spools = folder / "untraced", folder / "spools"
         decided = folder / "decided"
-        for path in (self.archive, self.untraced, decided, self.copies, self.spools):
+        for path in (self.archive, self.untraced, decided, self.spools):
             path.mkdir()
 
     def begin(self, messages: list[bytes]) -> None:

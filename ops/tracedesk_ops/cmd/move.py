@@ -18,7 +18,7 @@ A reel that is received anew begins without exposure, so the new desk is told th
 long ago as the old one counted. It is sealed if it is sealed. By the message for the old desk no
 piece of it is left there: they count as scrapped.
 
-OLD and NEW are files of desks that no run has open, or copies, as tracedesk-backup makes. Of a
+OLD and NEW are files of desks that no run has open, or copies of such, or folders of lines. Of a
 line's folder the newest sealed file is read: seal both lines first. They are not changed. Run both
 commands before anything is sent; then the old desk gets its message first. A running desk may have
 gone on since its copy was made. So standard error has the answer that each desk must give: how many
@@ -169,7 +169,7 @@ def arrival(
     if new.commands + len(messages.lines) > new.greatest:
         raise NotMoved(
             f"DeskFull: the new desk has {new.commands} of {new.greatest} commands: begin a new one"
-            " there (tracedesk-rollover)"
+            " there (tracedesk-ops rollover)"
         )
     return reel
 

@@ -1,27 +1,22 @@
-"""Recalls lots, a board or reels over the running desks of lines and all archives of their
-catalogues.
+"""Recalls lots, a board or reels over the running desks of lines and all sealed files behind them.
 
 usage: tracedesk-recall lot NAME.. [--part PART] [OPTION]..
        tracedesk-recall board NAME [OPTION]..
        tracedesk-recall reel NAME.. [OPTION]..
        tracedesk-recall where ATTRIBUTE=VALUE.. [OPTION]..
-options:                [--line LINE URL CATALOGUE].. [--lines FILE]
+options:                [--line LINE URL FOLDER].. [--lines FILE]
                         [--show TABLE] [--shipped FILE] [--customer NAME] [--html FILE] [--evidence
                         FOLDER] [--key FILE | --unsigned] [--cacert FILE] [--netrc FILE]
-                        [--archives-only]
 
 examples:
   tracedesk-recall lot L-77            of the lines that are set up on this machine, by
                                        /etc/tracedesk/LINE.conf
   tracedesk-recall lot L-77 L-78 --part CAP-100N
   tracedesk-recall where date_code=2614 part=CAP-100N
-  tracedesk-recall lot L-77 --line L1 http://127.0.0.1:8080 /var/lib/tracedesk/archive/catalogue.csv
+  tracedesk-recall lot L-77 --line L1 http://127.0.0.1:8080 /var/lib/tracedesk/L1
   tracedesk-recall lot L-77 --lines lines.csv --shipped shipped.csv --evidence L-77 > boards.csv
-  tracedesk-recall board SN-117 --archives-only --line L1 - archive/catalogue.csv      no desk runs
+  tracedesk-recall board SN-117 --line L1 - /mirror/L1      a mirror, without what came since
   tracedesk-recall reel K-01 --lines lines.csv --show reels
-  tracedesk-recall lot L-77 --line L1 ssh:line-1 - --line L2 ssh:line-2 -              two lines on
-                                                                                       computers of
-                                                                                       their own
 
 tracedesk-chain reads a line's archives, once the checksum of each is that of its line, and answers
 only if they are a chain. Each file names the archive from which its desk was begun, and the running
@@ -36,15 +31,11 @@ supplier, maker_part or order, as tracedesk-reels keeps them. If it is named twi
 of the values. A reel whose attributes nobody gave may be one of them: it is named, and the status
 is 3.
 
---line          a line's name, the URL of its running desk (`-` where none runs), and the path of
-                its catalogue: where the line was never rolled over, the path that it will have
-                A line on another computer has the URL ssh:HOST or ssh:USER@HOST, here or in its
-                set-up file, and the catalogue `-`:
-                tracedesk-recall is run there for all lines of that computer, and each answer has to
-                be complete
---lines FILE    the same of several lines: a CSV file of the header line,url,catalogue; paths are
-                from its folder on. A fourth column, machines, may name a line's machines, with `;`
-                between them: their slots are looked at
+--line          a line's name, the URL of its running desk, and the line's folder. With `-` for a
+                URL the newest sealed file stands for the desk, and the answer is not complete. Of
+                a line on another computer name a mirror of its folder
+--lines FILE    the same of several lines: a CSV file of the header line,url,folder; paths are
+                from its folder on
 --show TABLE    the table to print as CSV; without it pieces of a board, and boards of a lot or reel
   boards        of each board its pieces, the first and last minute, the lines, overdue, and the
                 files they lie in
@@ -61,23 +52,16 @@ is 3.
                  also those that hold no
                 piece, and nothing of other boards; a serial that no line knows makes it incomplete
 --html FILE     one page to print, with all of it
---evidence FOLDER  all of it as CSV and HTML, the desks' answers, the catalogues, a certificate,
-                   checksums and a signature:
-                tracedesk-verify verifies it. With `-` it goes to standard output as a tar, in place
-                of the table, for the lines of this computer alone: so another one asks. Its
-                evidence has that tar
---token NAME    the certificate has it, with the words of the question: so another computer knows
-                that the answer is to its own
+--evidence FOLDER  all of it as CSV and HTML, the desks' answers, a certificate, checksums and a
+                   signature: tracedesk-verify verifies it
 --key FILE      the private key that signs the evidence, as ssh-keygen makes it; without it the
                 `key` of the line's set-up file
 --unsigned      the evidence is not signed, and its certificate says so
 --cacert FILE   the certificate of an https URL, or of its signer
 --netrc FILE    the users and passwords of the URLs
---archives-only lets a line have no running desk; without it `-` for a URL ends with status 3
 
 FILE of --html and FOLDER must not be there yet. Each gets its name once it is whole. A running desk
-reports no minutes, and lists no reels of a lot: its file has both, if the line's set-up names it,
-or it is next to the folder of its archives.
+reports no minutes, and lists no reels of a lot: its file in the line's folder has both.
 
 Exit status: 0 all were asked; 1 all were asked, and none knows the name; 2 bad command line, or a
 list that can't be read; 3 not all were asked, the archives are no chain, pieces are counted twice,
@@ -102,7 +86,7 @@ from typing import Any, NoReturn
 
 from tracedesk.desk import checked_url
 from tracedesk_ops import carry, catalogue, chains, files, options, places, plant, reader_of
-from tracedesk_ops.recalls import customers, hosts, sets, signing
+from tracedesk_ops.recalls import customers, sets, signing
 from tracedesk_ops.recalls.certificate import bytes_of, programs
 from tracedesk_ops.recalls.desk import Desk, Line, Question
 from tracedesk_ops.recalls.evidence import (
@@ -124,9 +108,7 @@ def stop(text: str, status: int = 2) -> NoReturn:
     sys.exit(status)
 
 
-def rows_of(
-    path: pathlib.Path, header: Sequence[str], more: Sequence[str] = ()
-) -> Iterator[list[str]]:
+def rows_of(path: pathlib.Path, header: Sequence[str]) -> Iterator[list[str]]:
     """The rows of a CSV file that has the columns of a header, and may have more; the tool stops
     where it can't be read.
     """
@@ -144,55 +126,31 @@ def rows_of(
                 stop(
                     f"{path}, line {rows.line_num}: it has more or fewer fields than the first line"
                 )
-            yield [row[it].strip() for it in header] + [row.get(it, "").strip() for it in more]
+            yield [row[it].strip() for it in header]
     except (OSError, UnicodeDecodeError, csv.Error) as fault:
         stop(f"{path}: it can't be read: {fault}")
 
 
 def lines_of(words: argparse.Namespace) -> list[Line]:
-    told = [(pathlib.Path(), *it, "", None) for it in words.line]
+    told = [(pathlib.Path(), *it) for it in words.line]
     if words.lines:
         told += [
-            (words.lines.parent, *it, None)
-            for it in rows_of(words.lines, ("line", "url", "catalogue"), ("machines",))
+            (words.lines.parent, *it) for it in rows_of(words.lines, ("line", "url", "folder"))
         ]
     if not told:
         told = [
-            (
-                pathlib.Path(),
-                it["line"],
-                it["url"],
-                f"{it['archive']}/{catalogue.FILE_NAME}",
-                "",
-                pathlib.Path(it["db"]),
-            )
+            (pathlib.Path(), it["line"], it["url"], str(pathlib.Path(it["db"]).parent))
             for it in options.set_ups()
         ]
-        if words.evidence != hosts.PRINTED:  # else another computer asks, for its own answer
-            told += [(pathlib.Path(), it.line, it.url, "-", "", None) for it in places.elsewhere()]
     lines: list[Line] = []
     seen: dict[tuple[str, Any], str] = {}
-    for folder, name, url, path, machines, desk in told:
-        host = hosts.host_of(url)
-        if path in ("", "-") and not host:
-            stop(
-                f"the line {name} has no catalogue: name the path that it has, or will have, as"
-                " archive/catalogue.csv beside the desk's file"
-            )
+    for folder, name, url, path in told:
+        if path in ("", "-"):
+            stop(f"the line {name} has no folder: name that of its desk")
         at = pathlib.Path(os.path.abspath(folder / path))  # a link stays one, as in each tool
-        if is_folder(at) and not host:
-            stop(
-                f"{at} is a folder: name the catalogue of the line {name}, as"
-                f" {at}/{catalogue.FILE_NAME}"
-            )
-        it = Line(
-            name,
-            "" if url == "-" or host else url,
-            at,
-            tuple(filter(None, map(str.strip, machines.split(";")))),
-            desk,
-            host,
-        )
+        if not is_folder(at) and at.exists():
+            stop(f"{at} is a file: name the folder of the line {name}")
+        it = Line(name, "" if url == "-" else url, at)
         try:
             place = place_of(it.url) if it.url else None
         except ValueError as fault:
@@ -200,7 +158,7 @@ def lines_of(words: argparse.Namespace) -> list[Line]:
                 f"the running desk of the line {name} is no URL, as http://127.0.0.1:8080: {url!r}:"
                 f" {fault}"
             )
-        for what in ("name", name), ("running desk", place):
+        for what in ("name", name), ("running desk", place), ("folder", at):
             if what in seen:
                 stop(
                     f"the lines {seen[what]} and {name} have the same {what[0]}: each is asked once"
@@ -211,7 +169,7 @@ def lines_of(words: argparse.Namespace) -> list[Line]:
             stop("a line has no name")
         lines.append(it)
     return lines or stop(
-        f"no line is named, and none is set up in {places.FOLDER}: --line NAME URL CATALOGUE, or"
+        f"no line is named, and none is set up in {places.FOLDER}: --line NAME URL FOLDER, or"
         " --lines FILE"
     )
 
@@ -284,7 +242,7 @@ def parse() -> argparse.Namespace:
     parser.add_argument("names", nargs="+", type=carry.identifier, help="its names, or attributes")
     parser.add_argument("--part", type=carry.identifier, help="of lots, this part alone")
     parser.add_argument(
-        "--line", nargs=3, action="append", default=[], metavar=("LINE", "URL", "CATALOGUE")
+        "--line", nargs=3, action="append", default=[], metavar=("LINE", "URL", "FOLDER")
     )
     parser.add_argument(
         "--show", choices=("boards", "pieces", "reels", "asked", "untraced", "doubtful")
@@ -299,10 +257,8 @@ def parse() -> argparse.Namespace:
         ("netrc", "FILE"),
     ):
         parser.add_argument(f"--{option}", type=pathlib.Path, metavar=metavar)
-    for option in ("archives-only", "unsigned"):
-        parser.add_argument(f"--{option}", action="store_true")
-    for option in ("customer", "token"):
-        parser.add_argument(f"--{option}", metavar="NAME")
+    parser.add_argument("--unsigned", action="store_true")
+    parser.add_argument("--customer", metavar="NAME")
     parser.add_argument(
         "--program",
         default=os.environ.get("PROGRAM", "tracedesk"),
@@ -328,9 +284,7 @@ def parse() -> argparse.Namespace:
     if words.key and words.unsigned:
         stop("--key signs the evidence, and --unsigned doesn't: say one of them")
     for path in (words.html, words.evidence):
-        if path not in (None, hosts.PRINTED) and (
-            os.path.lexists(path) or not os.path.isdir(path.absolute().parent)
-        ):
+        if path and (os.path.lexists(path) or not os.path.isdir(path.absolute().parent)):
             stop(
                 (
                     f"{path}: it is there already, and nothing is overwritten"
@@ -376,37 +330,21 @@ def asked(
     lines: list[Line],
     desk_of: Callable[[Line], Desk],
     room: pathlib.Path,
-) -> tuple[Recall, list[sets.Move]]:
-    """The recall of all lines, and the moves of reels that they know. If another computer knows
-    more names of a reel that moved, all are asked again, by all of its names.
-    """
-    here, kind, names = [line for line in lines if not line.host], words.kind, list(words.names)
-    while True:
-        its = sets.question_of(kind, names, words.part or "", here)
-        is_alone = len(here) == len(lines)
-        if is_alone and words.evidence != hosts.PRINTED and not its.question.names():
-            for text in (*(f"NOT ASKED: {why}" for why in its.faults), *its.notes):
-                plant.tell(text)
-            stop(f"no reel is one of {its.question.name}", 3 if its.faults else 1)
-        its_words = [kind, *([f"--part={words.part}"] if words.part else []), "--", *names]
-        there = hosts.Asking(lines, its_words)
-        chain = chains.Asker(words.program, its.question.words(listed_in(room, its.question)))
-        recall = Recall(its.question, lines, desk_of, chain, words.archives_only, there.take)
-        recall.words, recall.token = its_words, words.token or ""
-        recall.faults += its.faults
-        recall.notes += its.notes
-        recall.ask()
-        those, more = there.names(its)
-        if kind != "reel" or not more:
-            break
-        names = [*names, *more]
-    recall.faults += [f"the reel {name} has moved: ask for it by this name too" for name in more]
-    known = its.known
-    if known and words.evidence == hosts.PRINTED:
-        recall.notes += known.away(those)
-    elif known:
-        recall.faults += known.away([*those, *more])
-    return recall, list(known.moves()) if known else []
+) -> Recall:
+    """The recall of all lines."""
+    its = sets.question_of(words.kind, words.names, words.part or "", lines)
+    if not its.question.names():
+        for text in (*(f"NOT ASKED: {why}" for why in its.faults), *its.notes):
+            plant.tell(text)
+        stop(f"no reel is one of {its.question.name}", 3 if its.faults else 1)
+    chain = chains.Asker(words.program, its.question.words(listed_in(room, its.question)))
+    recall = Recall(its.question, lines, desk_of, chain)
+    recall.faults += its.faults
+    recall.notes += its.notes
+    recall.ask()
+    if its.known:
+        recall.faults += its.known.away(its.question.names())
+    return recall
 
 
 def answer(words: argparse.Namespace, room: pathlib.Path) -> int:
@@ -423,7 +361,7 @@ def answer(words: argparse.Namespace, room: pathlib.Path) -> int:
     want_secrets_kept(lines, users)
     shipped = shipped_of(words.shipped) if words.shipped else None
     os.nice(NICE)
-    recall, moves = asked(words, lines, lambda line: Desk(line, context, users), room)
+    recall = asked(words, lines, lambda line: Desk(line, context, users), room)
     if not words.line and not words.lines:
         recall.notes.append(
             f"by the files of {places.FOLDER} the lines are {', '.join(it.name for it in lines)}:"
@@ -476,11 +414,6 @@ def answer(words: argparse.Namespace, room: pathlib.Path) -> int:
                 its = customers.contents(recall, own, used, signed_by)
         if words.html:
             write_beside(words.html, bytes_of(paper))
-        if words.evidence == hosts.PRINTED:
-            its[hosts.MOVES] = bytes_of(catalogue.csv_text([hosts.MOVES_HEADER, *moves]))
-            write_evidence(room / "evidence", its, key)
-            hosts.send(room / "evidence")
-            return recall.status()
         if words.evidence:
             write_evidence(words.evidence, its, key)
             if not key:

@@ -11,14 +11,14 @@ examples:
                                                            reels
 
 FILE is CSV. Its header names the columns: reel, and any of part, lot, date_code, supplier,
-maker_part and order; others are left out. `add` appends them to reels.csv next to the catalogue,
+maker_part and order; others are left out. `add` appends them to reels.csv next to the sealed files,
 and never changes a row: a later row of a reel takes the place of the one before it. A reel that is
 there already with the same attributes gets no row. `list` prints the newest row of each reel.
 
 --by       who gives them: a person, or a program
 --line     which line's, where several are set up
---archive  the folder with the archives and the catalogue (that of the set-up file, else
-           /var/lib/tracedesk/archive)
+--archive  the folder with the sealed files (that of the set-up file, else
+           /var/lib/tracedesk/sealed)
 
 Exit status: 0 done; 1 list: no reel has these attributes; 2 bad command line, or FILE can't be
 read; 3 the book is damaged or gone, or a desk has recorded a row that it lacks, and standard error
@@ -31,9 +31,12 @@ import csv
 import io
 import pathlib
 
-from tracedesk_ops import around, attributes, catalogue, options, places, plant, reader_of
-from tracedesk_ops import settling, store, untraced
+from tracedesk_ops import around, attributes, books, catalogue, model, options, places, plant
+from tracedesk_ops import reader_of
+from tracedesk_ops import untraced
+from tracedesk_ops.line import LineFolder
 from tracedesk_ops.recalls import sets
+from tracedesk_ops.sealed import FilesFault
 
 DONE, NONE, BAD, DAMAGED = 0, 1, 2, 3
 
@@ -64,13 +67,15 @@ def add(asked: argparse.Namespace) -> int:
         plant.tell(f"{asked.file}: {fault}")
         return BAD
     count = attributes.add(asked.archive, new, untraced.now(), asked.by)
-    settling.record(asked.archive)  # else tracedesk-untraced does, and each start
+    books.record(asked.archive)  # else tracedesk-untraced does, and each start
     plant.tell(f"{count} of {len(new)} reels are new or have other attributes than before")
     return DONE
 
 
 def show(asked: argparse.Namespace) -> int:
-    rows, faults = attributes.rows_of(asked.archive, around.recorded(asked.archive))
+    rows, faults = attributes.rows_of(
+        asked.archive, around.recorded(LineFolder(asked.archive.parent))
+    )
     newest = {row.its.reel: row for row in rows}
     found = [row for row in newest.values() if asked.terms.take(row.its)]
     table = [[*row.its, row.at, row.by] for row in found]
@@ -85,7 +90,7 @@ def parse() -> argparse.Namespace:
     reader.add_argument("what", choices=("add", "list"))
     reader.add_argument("words", nargs="*", metavar="FILE | ATTRIBUTE=VALUE")
     reader.add_argument("--by", metavar="NAME")
-    reader.add_argument("--archive", type=pathlib.Path, default=places.HOME / "archive")
+    reader.add_argument("--archive", type=pathlib.Path, default=places.DESK.with_name(model.SEALED))
     options.set_up(reader)
     asked = reader.parse_args()
     asked.archive = asked.archive.absolute()
@@ -110,6 +115,6 @@ def main() -> int:
     try:
         with plant.as_owner(asked.archive / attributes.FILE_NAME):
             return add(asked) if asked.what == "add" else show(asked)
-    except (plant.Fault, store.LineFault, OSError) as fault:
+    except (plant.Fault, FilesFault, OSError) as fault:
         plant.tell(str(fault))
         return DAMAGED

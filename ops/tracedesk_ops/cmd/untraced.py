@@ -1,11 +1,10 @@
 """Lists the work that a line's desk refused and did not trace, and keeps each person's decision
 about it.
 
-usage: tracedesk-untraced collect [--every SECONDS] [--line NAME] [--status FOLDER] [--archive
-FOLDER]
+usage: tracedesk-untraced collect [--every SECONDS] [--line NAME] [--archive FOLDER]
        tracedesk-untraced list [--all] [--line NAME] [--archive FOLDER]
-       tracedesk-untraced decide ID --by NAME --became TEXT --reason TEXT [--line NAME] [--status
-       FOLDER] [--archive FOLDER]
+       tracedesk-untraced decide ID --by NAME --became TEXT --reason TEXT [--line NAME] [--archive
+       FOLDER]
 
 examples:
   tracedesk-untraced collect                     once
@@ -16,21 +15,20 @@ examples:
   tracedesk-untraced decide 3f0c9a --by 'A. Person' --became scrapped \\
       --reason 'built with the expired reel'
 
-Senders put a record of each refused report of work into the line's inbox, which its set-up file
-names: else the folder `untraced` next to that of the archives. `collect` appends it to
-untraced.csv, next to the catalogue. A recall names each board that is in it, and ends with status 3
-until somebody decided what became of the board. Only `scrapped` takes it out of recalls: with each
-other decision it stays doubtful, with status 5. `collect` also takes the attributes of reels out of
-their receipts, into reels.csv. ID may be the beginning of an id, if no other has it. A refused
-load, splice or unload has a record too, and needs no decision. If a recall names pieces as doubtful
-because of it, and nothing was placed from that reel, decide --became 'taken off'. If a recall says
-that untraced.csv has not a row, and no copy has it, look for that work on paper, then decide lost.
+Senders put a record of each refused report of work into the folder `untraced` of the line.
+`collect` appends it to untraced.csv, next to the sealed files. A recall names each board that is in
+it, and ends with status 3 until somebody decided what became of the board. Only `scrapped` takes it
+out of recalls: with each other decision it stays doubtful, with status 5. `collect` also takes the
+attributes of reels out of their receipts, into reels.csv, and writes untraced.json into the folder
+`status` of the line, if it is there, for the station. ID may be the beginning of an id, if no other
+has it. A refused load, splice or unload has a record too, and needs no decision. If a recall names
+pieces as doubtful because of it, and nothing was placed from that reel, decide --became 'taken
+off'. If a recall says that untraced.csv has not a row, and no copy has it, look for that work on
+paper, then decide lost.
 
 --line     which line's, where several are set up
---archive  the folder with the archives and the catalogue (that of the set-up file, else
-           /var/lib/tracedesk/archive)
---status   where collect and decide write untraced.json, which the station reads (that of the set-up
-           file, if it is there)
+--archive  the folder with the sealed files (that of the set-up file, else
+           /var/lib/tracedesk/sealed)
 --became   scrapped, reworked, used as it is, sent again, or words of your own; of a refused reel,
            taken off
 
@@ -44,8 +42,11 @@ import argparse
 import pathlib
 import time
 
-from tracedesk_ops import around, catalogue, options, places, plant, reader_of, receipts
-from tracedesk_ops import settling, store, untraced
+from tracedesk_ops import around, books, catalogue, options, model, places, plant, reader_of
+from tracedesk_ops import receipts
+from tracedesk_ops import untraced
+from tracedesk_ops.line import LineFolder
+from tracedesk_ops.sealed import FilesFault
 
 
 def collect(asked: argparse.Namespace) -> int:
@@ -79,20 +80,23 @@ def record_heads(asked: argparse.Namespace) -> None:
     """Lets the line's desk record the heads of its books, once for each: while it doesn't answer,
     it is tried again.
     """
-    stamps = settling.stamps_of(asked.archive)
-    if stamps != getattr(asked, "recorded", []) and settling.record(asked.archive):
+    stamps = books.stamps_of(asked.archive)
+    if stamps != getattr(asked, "recorded", []) and books.record(asked.archive):
         asked.recorded = stamps
 
 
 def tell_station(asked: argparse.Namespace, records: list[untraced.Record]) -> None:
-    folder = asked.status or places.of_archive(asked.archive).status
-    if asked.status or folder.is_dir():
+    folder = asked.archive.with_name(model.STATUS)
+    if folder.is_dir():
         untraced.write_status(folder, records)
 
 
 def show(asked: argparse.Namespace) -> int:
     book = untraced.read(asked.archive)
-    faults = [*book.faults, *untraced.missing(asked.archive, around.recorded(asked.archive))]
+    faults = [
+        *book.faults,
+        *untraced.missing(asked.archive, around.recorded(LineFolder(asked.archive.parent))),
+    ]
     decided, rows = untraced.decisions(book.records), []
     for it in book.records:
         if it.told["Kind"] != "decided" and (
@@ -122,7 +126,7 @@ def decide(asked: argparse.Namespace) -> int:
 def ids_of(asked: argparse.Namespace, records: list[untraced.Record]) -> list[str]:
     """About what somebody decides: the record whose id begins so, or each head of lost rows."""
     if asked.id == untraced.LOST:
-        ids = untraced.lost(asked.archive, around.recorded(asked.archive))
+        ids = untraced.lost(asked.archive, around.recorded(LineFolder(asked.archive.parent)))
         if not ids:
             raise plant.Fault("no row is lost that a desk has recorded")
         return ids
@@ -153,24 +157,25 @@ def main() -> int:
         )
         it.set_defaults(call=call)
         it.add_argument(
-            "--archive", type=pathlib.Path, default=places.HOME / "archive", metavar="FOLDER"
+            "--archive",
+            type=pathlib.Path,
+            default=places.DESK.with_name(model.SEALED),
+            metavar="FOLDER",
         )
         if verb == "list":
             it.add_argument("--all", action="store_true")
-        else:
-            it.add_argument("--status", type=pathlib.Path, metavar="FOLDER")
         if verb == "collect":
             it.add_argument("--every", type=float, metavar="SECONDS")
         if verb == "decide":
             it.add_argument("id", type=words_of)
             for name in ("by", "became", "reason"):
                 it.add_argument(f"--{name}", required=True, type=words_of, metavar="TEXT")
-        options.set_up(it, status="")
+        options.set_up(it)
     asked = reader.parse_args()
     asked.archive = asked.archive.absolute()
     with plant.as_owner(asked.archive.parent / places.DESK.name):
         try:
             return int(asked.call(asked))
-        except store.LineFault as fault:
+        except FilesFault as fault:
             plant.tell(str(fault))
             return 3

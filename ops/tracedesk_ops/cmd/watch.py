@@ -1,9 +1,8 @@
 """Writes what there is to know of a running desk as a text file for Prometheus, whole or not at
 all.
 
-usage: tracedesk-watch [--to FILE] [--port N] [--health URL] [--unit NAME] [--setup FILE] [--db
-FILE] [--archive FOLDER]
-                       [--backups FOLDER] [--clock FILE] [--drained FILE] [--status FOLDER]
+usage: tracedesk-watch [--to FILE] [--port N] [--health URL] [--unit NAME] [--setup FILE]
+                       [--db FILE] [--clock FILE] [--drained FILE]
                        [--timeout SECONDS]
        tracedesk-watch --list
 
@@ -50,19 +49,14 @@ from typing import Any
 
 from tracedesk import words as reports
 from tracedesk_ops import (
-    around,
     asking,
-    backups,
-    catalogue,
-    copies,
     files,
     options,
-    places,
     model,
+    places,
     plant,
     reader_of,
     sealed_watch,
-    store,
     untraced,
 )
 
@@ -100,14 +94,12 @@ tracedesk_log_bytes gauge Size of the log beside the desk's file.
 tracedesk_disk_free_bytes gauge Bytes free on the disk of the desk's file.
 tracedesk_pieces_estimate gauge An estimate of the placed pieces: tracedesk_file_bytes at {BYTES_A_PIECE} bytes a piece.
 tracedesk_next_start_estimate_seconds gauge An estimate of how long the next start takes: tracedesk_pieces_estimate at {plant.SECONDS_A_MILLION} seconds a million.
-tracedesk_backup_timestamp_seconds gauge When the newest good copy was taken, by its name.
-tracedesk_backup_commands gauge Accepted commands in the newest good copy, by its backup.json.
-tracedesk_backup_pieces gauge Placed pieces in the newest good copy, by its tables.
-tracedesk_check_timestamp_seconds gauge When tracedesk-backup --check last looked at the newest copy, and by tracedesk-chain at the chain of files.
-tracedesk_check_status gauge How that ended: 0 whole, lawful and a chain, else its exit status.
-tracedesk_rollover_timestamp_seconds gauge Minute of the last command of the newest archive, by the catalogue: there the running desk began.
-tracedesk_archive_commands gauge Accepted commands of all archives, by the catalogue.
-tracedesk_archive_pieces gauge Placed pieces of all archives, by the catalogue.
+tracedesk_backup_timestamp_seconds gauge When the desk was sealed last, by the file's time.
+tracedesk_backup_commands gauge Accepted commands in the newest sealed file.
+tracedesk_backup_pieces gauge Placed pieces in the newest sealed file, by its tables.
+tracedesk_rollover_timestamp_seconds gauge Minute of the last command of the file from which the running desk began.
+tracedesk_archive_commands gauge Accepted commands of all files from which a desk was begun.
+tracedesk_archive_pieces gauge Placed pieces of all files from which a desk was begun.
 tracedesk_clock_timestamp_seconds gauge Minute of the last ClockSet of the idle clock that the desk accepted.
 tracedesk_clock_commands gauge Accepted commands of the desk at that moment: the Number in its answer.
 tracedesk_sender_waiting gauge Messages that wait at the sender, by its status.
@@ -170,8 +162,8 @@ class Watch:
 
     def __init__(self, asked: argparse.Namespace) -> None:
         self.asked, self.desk = asked, Desk(asked.port, asked.timeout)
-        self.reader = store.Reader(believes_names=True, without_logs=True)
-        self.is_up, self.is_folder = False, asked.archive.name == model.SEALED
+        self.is_up = False
+        self.sealed = asked.db.with_name(model.SEALED)
 
     def tried(self, name: str, source: Samples) -> Generator[Sample, None, bool]:
         """The samples of a source, and whether it gave all; else the reason is told."""
@@ -270,42 +262,16 @@ class Watch:
         yield "next_start_estimate_seconds", seconds, {}
 
     def backup(self) -> Samples:
-        """The newest copy that lacks no archive; one of the future is none to trust."""
-        if self.is_folder:
-            yield from sealed_watch.newest(self.asked.archive)
-        if not is_there(self.asked.backups):
-            return
-        if told := read_if_there(backups.note_of(self.asked.backups, self.asked.db)):
-            yield "check_timestamp_seconds", second_of(told["At"]), {}
-            yield "check_status", int(told["Status"]), {}
-        for copy in reversed(backups.kept_by_path(self.asked.backups, self.asked.db)):
-            told = backups.about(copy)
-            if not told["missing"]:
-                yield "backup_timestamp_seconds", int(backups.taken(copy)), {}
-                yield "backup_commands", int(told["commands"]), {}
-                yield "backup_pieces", placed_in(copy / "desk"), {}
-                return
+        """The newest sealed file; one of the future is none to trust."""
+        if is_there(self.sealed):
+            with within(SECONDS_FOR_A_FILE):
+                has = self.desk.has if self.is_up else lambda _: True
+                yield from sealed_watch.newest(self.sealed, has)
 
     def archive(self) -> Samples:
-        folder = self.asked.archive
-        if self.is_folder:
-            has = self.desk.has if self.is_up else lambda _: False
-            yield from sealed_watch.archives(folder, has)
-            return
-        survey = around.Folder(folder, [], None, self.reader).survey()
-        if survey.faults:
-            raise plant.Fault(survey.faults[0])
-        archives = survey.archives
-        begins = [model.first_uid(its.sha256) for its in archives if not its.went_on_to]
-        if self.is_up and self.desk.has(model.BEGUN) and not any(map(self.desk.has, begins)):
-            raise plant.Fault(
-                f"{folder} has no archive from which the running desk was begun: mount its disk, or"
-                " take it from a copy"
-            )
-        if archives:
-            yield "rollover_timestamp_seconds", 60 * archives[-1].last_minute, {}
-        yield "archive_commands", sum(its.commands for its in archives), {}
-        yield "archive_pieces", sum(placed_in(folder / its.file) for its in archives), {}
+        has = self.desk.has if self.is_up else lambda _: False
+        if is_there(self.sealed):
+            yield from sealed_watch.archives(self.sealed, has)
 
     def clock(self) -> Samples:
         """The answer that the idle clock had last, if one is switched on."""
@@ -319,7 +285,8 @@ class Watch:
         hide the others.
         """
         spoilt = []
-        there = self.asked.status.glob("[!.]*.json") if is_there(self.asked.status) else ()
+        folder = self.asked.db.with_name(model.STATUS)
+        there = folder.glob("[!.]*.json") if is_there(folder) else ()
         for file in sorted(there):
             try:
                 yield from list(said_by(file.name, json.loads(file.read_bytes())))
@@ -360,13 +327,6 @@ def machines_of(path: pathlib.Path) -> list[tuple[str, str | None]]:
         raise plant.Fault(
             f"{path} has no list of machines: {fault!r}; docs/station.md says how it is written"
         ) from fault
-
-
-def placed_in(copy: pathlib.Path) -> int:
-    """How many pieces the tables of a copy have placed; nothing is written beside the copy."""
-    query = "SELECT coalesce(sum(placed), 0) FROM reel"
-    with within(SECONDS_FOR_A_FILE), catalogue.opened(copy) as database:
-        return int(copies.rows(database, query)[0][0])
 
 
 # --- The file
@@ -420,20 +380,7 @@ def words() -> argparse.Namespace:
         type=pathlib.Path,
         default=places.DESK,
         metavar="FILE",
-        help=f"the desk's file, whose size is looked at ({places.DESK})",
-    )
-    reader.add_argument(
-        "--archive",
-        type=pathlib.Path,
-        metavar="FOLDER",
-        help="the archived desks with their catalogue (archive, beside the file)",
-    )
-    reader.add_argument(
-        "--backups",
-        type=pathlib.Path,
-        default=places.COPIES,
-        metavar="FOLDER",
-        help=f"where the copies are ({places.COPIES})",
+        help=f"the desk's file, in the line's folder ({places.DESK})",
     )
     reader.add_argument(
         "--clock",
@@ -450,22 +397,14 @@ def words() -> argparse.Namespace:
         help=f"senders are sent away while it is there ({options.DRAINED})",
     )
     reader.add_argument(
-        "--status",
-        type=pathlib.Path,
-        metavar="FOLDER",
-        help="what senders say of themselves (that of the set-up file)",
-    )
-    reader.add_argument(
         "--timeout",
         type=float,
         default=10,
         metavar="SECONDS",
         help="for one answer of the desk (10)",
     )
-    options.set_up(reader, copies="backups")
+    options.set_up(reader)
     asked = reader.parse_args()
-    asked.archive = asked.archive or places.archive_of(asked.db)
-    asked.status = asked.status or places.of_desk(asked.db).status
     if asked.timeout <= 0:
         reader.error("--timeout: an answer takes some time")
     if not asked.health.startswith("https://"):

@@ -3,44 +3,25 @@ from __future__ import annotations
 
 import hashlib
 import pathlib
+from collections.abc import Sequence
 
 from tracedesk_ops import catalogue, doubtful, untraced
-from tracedesk_ops.loads.tables import RUNNING, Seen, Tables
+from tracedesk_ops.line import LineFolder
+from tracedesk_ops.loads.tables import Seen, Tables
 
 # what is missing of a line in which nobody looked for them
 LOOK = "untraced work and doubtful pieces"
 
 
 class Around:
-    """What is around the archives of a catalogue, and the running desk of their copy: untraced
-    work, and pieces that may be of another reel.
-    """
+    """What is around the files of a line: untraced work, and pieces that may be of another reel."""
 
-    def __init__(
-        self,
-        path: pathlib.Path,
-        archives: list[catalogue.Archive],
-        desk: Seen | None,
-        lines: list[str],
-    ) -> None:
-        self.path, self.archives, self.desk, self.line, self.lines = (
-            path,
-            archives,
-            desk,
-            "; ".join(lines),
-            lines,
-        )
-        book = untraced.read(path.parent)
-        self.checksum = hashlib.sha256(
-            repr(
-                (
-                    [it.sha256 for it in archives],
-                    desk and desk.sha256,
-                    [it.id for it in book.records],
-                    book.faults,
-                )
-            ).encode()
-        ).hexdigest()
+    def __init__(self, folder: pathlib.Path, seen: Sequence[Seen], line: str) -> None:
+        self.folder, self.seen, self.line = folder, seen, line
+        book = untraced.read(LineFolder(folder).sealed)
+        records = [it.id for it in book.records]
+        its = repr(([it.sha256 for it in seen], records, book.faults))
+        self.checksum = hashlib.sha256(its.encode()).hexdigest()
 
     def is_new(self, tables: Tables) -> bool:
         return not tables.rows(
@@ -51,9 +32,9 @@ class Around:
         """Looks for it in all files, and puts it into the tables. Why it isn't known what is in
         doubt.
         """
-        its = doubtful.look(
-            self.path, self.archives if is_whole else [], is_whole and bool(self.desk)
-        )
+        names = {it.file.name: it.name for it in self.seen}
+        files = [catalogue.Archive(name, "", self.line, 0, 0, 0) for name in names]
+        its = doubtful.look(self.folder, files if is_whole else [])
         with tables.link.transaction():
             for it, by, reels in its.works:
                 told = (
@@ -80,7 +61,7 @@ class Around:
                         self.unseen(tables)
                         if is_whole
                         else [
-                            f"{self.path}: {LOOK} were not looked for, since not all of it is"
+                            f"{self.folder}: {LOOK} were not looked for, since not all of it is"
                             " loaded"
                         ]
                     ),
@@ -106,7 +87,7 @@ class Around:
                         list(piece.other_reels),
                         list(piece.other_lots),
                         piece.why,
-                        piece.file,
+                        names[piece.file],
                         its.story.parts.get(piece.reel, ""),
                     )
                 tables.has(self.line, LOOK)
@@ -121,17 +102,13 @@ class Around:
         return faults
 
     def unseen(self, tables: Tables) -> list[str]:
-        """Files of the line that are loaded, and newer than these or of another catalogue: then
-        these alone don't say what is in doubt.
+        """Files of the line that are loaded, and aren't among these: then these alone don't say
+        what is in doubt.
         """
-        here = {it.sha256 for it in self.archives}
+        here = [it.sha256 for it in self.seen]
+        which = "line = %s AND NOT dropped AND NOT sha256 = ANY (%s)"
         return [
-            f"{self.path}: whether pieces may be of other reels isn't known, since"
-            f" {it.line} {it.name} is loaded and not in it: load the newest copy of the line"
-            for it in tables.files("line = ANY (%s) AND NOT dropped", self.lines)
-            if (
-                it.sha256 not in here
-                if not it.taken
-                else not self.desk or it.name == RUNNING and it.sha256 != self.desk.sha256
-            )
+            f"{self.folder}: whether pieces may be of other reels isn't known, since {it.line}"
+            f" {it.name} is loaded and not in it: load the newest files of the line"
+            for it in tables.files(which, self.line, here)
         ][:1]

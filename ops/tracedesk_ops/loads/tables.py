@@ -5,10 +5,10 @@ import hashlib
 import itertools
 import pathlib
 import sqlite3
-from collections.abc import Iterable, Sequence
+from collections.abc import Iterable
 from typing import Any, NamedTuple
 
-from tracedesk_ops import catalogue, plant, store
+from tracedesk_ops import catalogue, plant, sealed
 
 try:
     import psycopg
@@ -38,8 +38,8 @@ class LoadedBefore(Exception):
 
 
 class Seen(NamedTuple):
-    """A file that is to be loaded; `taken` is when the copy of a running desk was made, and
-    `epochs` has one for each restore of it.
+    """A file that is to be loaded; `taken` is when a running desk was sealed, and `off` has the
+    checksums of files that the line went back from.
     """
 
     file: pathlib.Path
@@ -47,18 +47,12 @@ class Seen(NamedTuple):
     name: str
     sha256: str
     taken: str
-    epochs: tuple[str, ...] = ()
+    off: frozenset[str] = frozenset()
 
 
 def fields(*values: object) -> str:
     """A line of COPY's text form."""
     return "\t".join(str(it).replace("\\", "\\\\") for it in values) + "\n"
-
-
-def was_restored_since(seen: Seen, epochs: Sequence[str]) -> bool:
-    """Whether the desk of a file was restored since the one with these epochs was copied."""
-    last = epochs[-1] if epochs else ""
-    return seen.epochs[-1:] != (last,) and last in ("", *seen.epochs)
 
 
 class Tables:
@@ -89,8 +83,8 @@ class Tables:
         """
         return self.rows(
             (
-                "SELECT id, line, name, sha256, pieces, taken, dropped, epochs, said, desk FROM"
-                f" file WHERE {which} ORDER BY id"
+                "SELECT id, line, name, sha256, pieces, taken, dropped, said FROM file WHERE"
+                f" {which} ORDER BY id"
             ),
             *values,
         )
@@ -130,10 +124,22 @@ class Tables:
             " gone.line AND NOT EXISTS (SELECT FROM file WHERE file.line = line.name)"
         )
 
-    def newest(self, line: str) -> str:
-        """The checksum of the running desk of a line that is loaded."""
+    def forget_taken_out(self, line: str, sha256: list[str]) -> None:
+        """Takes back that a file is missing that was taken out and isn't of the line any more."""
+        self.do(
+            (
+                "DELETE FROM lacking WHERE line = %s AND taken_out <> '' AND name <> %s"
+                " AND name NOT LIKE 'desk of %%' AND NOT taken_out = ANY (%s)"
+            ),
+            line,
+            RUNNING,
+            sha256,
+        )
+
+    def is_newest(self, line: str, sha256: set[str]) -> bool:
+        """Whether the running desk of a line that is loaded is one of these files."""
         its = self.files("line = %s AND name = %s", line, RUNNING)
-        return str(its[0].sha256) if its else ""
+        return bool(its) and its[0].sha256 in sha256
 
     def has_all(self, line: str) -> None:
         """Takes back what folders of this line lacked."""
@@ -143,7 +149,7 @@ class Tables:
         """Takes back that something is missing."""
         self.do("DELETE FROM lacking WHERE line = %s AND name = %s AND taken_out = ''", line, name)
 
-    def load(self, seen: Seen, database: sqlite3.Connection, desk: str) -> tuple[int, list[Any]]:
+    def load(self, seen: Seen, database: sqlite3.Connection) -> tuple[int, list[Any]]:
         """Makes a file a part, in the place of the files that it replaces. How many pieces it has,
         and the copies of which it lacks commands.
         """
@@ -160,11 +166,10 @@ class Tables:
                 for row in database.execute(SAID)
             ),
         )
-        replaced, cut = self.gives_way(seen, said, desk)
+        replaced, cut = self.gives_way(seen, said)
         ((commands, first, last),) = database.execute(SEEN)
         ((uid,),) = database.execute(UID_OF, [commands]).fetchall() or [("",)]
-        ((begun,),) = database.execute(UID_OF, [1]).fetchall() or [("",)]
-        mark = store.mark_of(begun)
+        mark = sealed.begun_from(database)
         with self.link.transaction():
             number = self.rows("SELECT nextval('file_id') AS it")[0].it
             part = f"placement_{number}"
@@ -183,8 +188,9 @@ class Tables:
             self.give_way(seen, replaced, cut)
             self.do(
                 (
-                    "INSERT INTO file VALUES (%s, %s, %s, %s, %s, %s, %s, %s, %s, %s, false, %s,"
-                    " %s, %s, %s)"
+                    "INSERT INTO file (id, line, name, sha256, first_minute, last_minute, commands,"
+                    " last_uid, pieces, taken, said, mark) VALUES (%s, %s, %s, %s, %s, %s, %s, %s,"
+                    " %s, %s, %s, %s)"
                 ),
                 number,
                 seen.line,
@@ -196,9 +202,7 @@ class Tables:
                 uid,
                 pieces,
                 seen.taken,
-                list(seen.epochs),
                 said,
-                desk,
                 mark,
             )
             self.do("INSERT INTO command SELECT %s, identity, places FROM its", number)
@@ -243,7 +247,7 @@ class Tables:
                 ),
             )
 
-    def gives_way(self, seen: Seen, said: int, desk: str) -> tuple[list[Any], list[Any]]:
+    def gives_way(self, seen: Seen, said: int) -> tuple[list[Any], list[Any]]:
         """The files that give way to this one: those whose commands it has; and older ones that
         have more, as a desk that went back.
 
@@ -257,15 +261,10 @@ class Tables:
             )
         }
         replaced, cut = self.files("line = %s AND taken <> '' AND said = 0", seen.line), []
-        for it in self.files("id = ANY (%s) OR desk = %s AND desk <> ''", list(counts), desk):
-            both, placing = (
-                (counts[it.id].both, counts[it.id].placing) if it.id in counts else (0, 0)
-            )
-            if (
-                it.line != seen.line
-                and not it.dropped
-                and (desk == it.desk if desk and it.desk else placing and both in (said, it.said))
-            ):
+        for it in self.files("id = ANY (%s)", list(counts)):
+            both, placing = counts[it.id].both, counts[it.id].placing
+            is_all = bool(placing) and both in (said, it.said)
+            if it.line != seen.line and not it.dropped and is_all:
                 raise plant.Fault(
                     f"{seen.file}: it is the desk of the line {it.line}, whose {it.name} is loaded,"
                     f" and not of {seen.line}. Where that name was wrong, drop that file: drop.sql"
@@ -288,7 +287,7 @@ class Tables:
                 continue
             if both == it.said:
                 replaced.append(it)
-            elif not seen.taken or was_restored_since(seen, it.epochs):
+            elif not seen.taken or it.sha256 in seen.off:
                 cut.append(it)
             elif both == said:
                 raise LoadedBefore(f"loaded before, as of {it.taken}")

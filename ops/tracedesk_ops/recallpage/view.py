@@ -67,7 +67,7 @@ MEANINGS = {
 }
 TO_DO = {
     "not_asked": "Mend what is named, then ask again.",
-    "no_chain": "An archive is missing, twice, or an older copy: take them from a backup.",
+    "no_chain": "An archive is missing, twice, or an older copy: take them from a mirror.",
     "twice": "Two files have the same work, or a board's name came again: have them looked at.",
 }
 

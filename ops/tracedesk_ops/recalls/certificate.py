@@ -4,7 +4,6 @@ reader.
 """
 from __future__ import annotations
 
-import contextlib
 import hashlib
 import json
 import pathlib
@@ -14,13 +13,12 @@ import subprocess
 from collections.abc import Iterable, Iterator
 from typing import Any, NamedTuple
 
-from tracedesk_ops import __version__, catalogue, model, plant, store
+from tracedesk_ops import __version__, files, plant
 from tracedesk_ops.recalls.desk import Line
 from tracedesk_ops.recalls.recall import Recall
 from tracedesk_ops.recalls.tables import Table
 
 FILE_NAME, KIND = "certificate.json", "recall 1"
-EPOCH = "epoch-"
 LISTED = "asked-reels.txt"  # the list of `tracedesk-chain reels`
 LIMITS = (
     "a piece whose placement nobody reported",
@@ -46,7 +44,7 @@ def program_of(name: str, path: str | None) -> Program:
     how: dict[str, Any] = {"capture_output": True, "check": True, **plant.TEXT}
     try:
         version = subprocess.run([at or name, "--version"], **how).stdout.strip()
-        return Program(name, version, store.sha256_of(pathlib.Path(at or name)))
+        return Program(name, version, files.sha256_of(pathlib.Path(at or name)))
     except (OSError, subprocess.CalledProcessError):
         return Program(name, f"no version: {path or name} is not here", "")
 
@@ -75,7 +73,6 @@ def certificate(
     return {
         "certificate": KIND,
         "question": dict(recall.question.about()),
-        **({"words": recall.words, "token": recall.token} if recall.token else {}),
         "asked_at": f"{recall.minute:%Y-%m-%dT%H:%M:00Z}",
         "answer": {
             "status": status,
@@ -98,16 +95,10 @@ def line_of(recall: Recall, number: int, line: Line) -> dict[str, Any]:
     """What was asked of a line. `chain` is the answer of tracedesk-chain; without it its archives
     were looked at by SQL alone.
     """
-    if line.host:
-        return line_elsewhere(recall, line)
-    kept = list(recall.catalogues).index(line.catalogue) + 1
-    name, epoch = desk_of(recall, line)
     told: dict[str, Any] = {
         "line": line.name,
-        "desk": name,
-        "epoch": epoch,
         "running_desk": {"url": line.url, "file": f"desk-{number}.txt"} if line.url else None,
-        "catalogue": {"path": str(line.catalogue), "file": f"catalogue-{kept}.csv"},
+        "folder": str(line.folder),
         "chain": None,
     }
     marks: dict[str, str] = {}
@@ -129,49 +120,6 @@ def line_of(recall: Recall, number: int, line: Line) -> dict[str, Any]:
         if asked.line == line.name and asked.sha256
     ]
     return told
-
-
-def line_elsewhere(recall: Recall, line: Line) -> dict[str, Any]:
-    """The same of a line on another computer, whose own evidence is in this file."""
-    name, epoch, file = "", "", None
-    for number, its in enumerate(recall.elsewhere, 1):
-        if its.host == line.host and line.name in its.lines:
-            name, epoch = its.lines[line.name]
-            file = evidence_of(number)
-    return {
-        "line": line.name,
-        "desk": name,
-        "epoch": epoch,
-        "running_desk": None,
-        "catalogue": None,
-        "chain": None,
-        "archives": [],
-        "host": line.host,
-        "evidence": file,
-    }
-
-
-def evidence_of(number: int) -> str:
-    """The file with the evidence of another computer."""
-    return f"host-{number}.tar"
-
-
-def desk_of(recall: Recall, line: Line) -> tuple[str, str]:
-    """The name and the epoch of a line's desk, by its file, else by the newest archive that can be
-    read; empty if it has none.
-    """
-    if who := recall.running_desks.get(line.name):
-        return named(who)
-    own = [its for its in recall.catalogues[line.catalogue].archives if its.desk == line.name]
-    for archive in reversed(own):
-        path = catalogue.path_of(line.catalogue, archive)
-        with contextlib.suppress(OSError, sqlite3.Error), catalogue.opened(path) as database:
-            return named(store.heads_in(database))
-    return "", ""
-
-
-def named(heads: model.Heads) -> tuple[str, str]:
-    return heads.name(), f"{EPOCH}{heads.epoch}" if heads.epoch else ""
 
 
 def bytes_of(text: str) -> bytes:

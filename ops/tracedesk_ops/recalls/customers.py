@@ -29,10 +29,10 @@ def serials_of(shipped: Shipped, customer: str) -> dict[str, str]:
 def unknown(recall: Recall, serials: Iterable[str]) -> set[str]:
     """The serials that no file and no running desk of the lines knows."""
     left = set(serials)
-    for path, survey in recall.catalogues.items():
-        for archive in survey.archives if left else ():
+    for line in recall.lines:
+        for archive in recall.own(line) if left else ():
             with contextlib.suppress(OSError, sqlite3.Error):
-                with catalogue.opened(catalogue.path_of(path, archive)) as database:
+                with catalogue.opened(catalogue.path_of(line.folder, archive)) as database:
                     left -= {its for its in left if copies.rows(database, KNOWN, its)}
     for desk in recall.desks.values():
         with contextlib.suppress(plant.Fault):
@@ -41,11 +41,14 @@ def unknown(recall: Recall, serials: Iterable[str]) -> set[str]:
 
 
 def narrow(recall: Recall, shipped: Shipped, customer: str) -> dict[str, Table]:
-    """The tables for a customer. A serial that nobody knows makes the answer incomplete."""
+    """The tables for a customer. A serial that nobody knows makes the answer incomplete, and in an
+    incomplete one nobody knows that a serial holds none.
+    """
     serials = serials_of(shipped, customer)
     holding = {piece.board for piece in recall.pieces}
     doubtful = {row[1] for row in recall.doubtful} | {row[3] for row in recall.undecided()}
     nowhere = unknown(recall, serials.keys() - holding)
+    without = NOT_KNOWN if recall.faults or recall.breaks or recall.doubts else NO
     if nowhere:
         named = ", ".join(sorted(nowhere)[:20])
         recall.faults.append(
@@ -56,7 +59,7 @@ def narrow(recall: Recall, shipped: Shipped, customer: str) -> dict[str, Table]:
     by_board = {row[0]: row for row in tables.boards_table(recall, None)[1:]}
     for serial, date in serials.items():
         its = by_board.get(serial)
-        holds = PERHAPS if serial in doubtful else NOT_KNOWN if serial in nowhere else NO
+        holds = PERHAPS if serial in doubtful else NOT_KNOWN if serial in nowhere else without
         placed = its[1:4] if its else [0, "", ""]
         rows.append([serial, customer, date, YES if its else holds, *placed])
     whole = tables.tables_of(recall, None)
@@ -95,9 +98,7 @@ def contents(
     told["twice"] = ["pieces are there twice in these lines' files"] if recall.doubts else []
     for line in told["lines"]:
         line["running_desk"] = bool(line["running_desk"])
-        line["catalogue"] = None
-        for name in line.keys() & {"host", "evidence"}:
-            line[name] = None
+        line["folder"] = None
         for archive in line["archives"]:
             archive["why"] = wording.readable(archive["why"])
     listed = evidence.listing(recall.question)

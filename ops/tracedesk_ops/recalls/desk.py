@@ -6,28 +6,22 @@ import json
 import netrc
 import pathlib
 import ssl
-from collections.abc import Iterator
 from typing import NamedTuple
 
 from tracedesk import words as reports
 from tracedesk_ops import asking, catalogue, model, plant
-from tracedesk_ops.firstlook import Piece, Reel, Told
+from tracedesk_ops.firstlook import Piece, Told
 
 RUNNING = catalogue.RUNNING
 SECONDS_FOR_A_REPORT = 120  # as the proxy waits; a trace of very many pieces takes its time
 
 
 class Line(NamedTuple):
-    """A line of the plant; `url` is empty if no desk runs, `machines` are those that somebody
-    named, and `desk` is its file if that is known. A line on another computer has its `host` alone.
-    """
+    """A line of the plant and its folder; `url` is empty if no desk runs."""
 
     name: str
     url: str
-    catalogue: pathlib.Path
-    machines: tuple[str, ...] = ()
-    desk: pathlib.Path | None = None
-    host: str = ""
+    folder: pathlib.Path
 
 
 class Question(NamedTuple):
@@ -71,12 +65,11 @@ class Question(NamedTuple):
 
 
 class Desk(asking.Once):
-    """A running desk. `notes` say where nobody looked for reels."""
+    """A running desk."""
 
     def __init__(self, line: Line, trust: ssl.SSLContext | None, users: netrc.netrc | None) -> None:
         super().__init__(line.url, SECONDS_FOR_A_REPORT, trust)
         self.line = line
-        self.notes: list[str] = []
         if user := users.authenticators(self.url.hostname or "") if users else None:
             log_in = base64.b64encode(f"{user[0]}:{user[2]}".encode()).decode()
             self.headers["Authorization"] = f"Basic {log_in}"
@@ -127,40 +120,3 @@ class Desk(asking.Once):
         overdue = "yes" if row.overdue else "no"
         where = row.machine, row.slot, overdue, None, self.line.name, RUNNING
         return Piece(board, row.designator, row.part, lot, row.reel, *where)
-
-    def stock(
-        self, question: Question, told: Told, held: dict[str, Reel], machines: set[str]
-    ) -> Iterator[Reel]:
-        """What is left now of the reels that the newest archive, the trace and the machines' slot
-        lists name. One that the desk doesn't know is reported as it was held.
-        """
-        pieces_on = {piece.machine for piece in told.pieces}
-        looked_at = sorted(machines | pieces_on | set(self.line.machines))
-        mounted: dict[str, tuple[str, reports.SlotRow]] = {
-            row.reel: (machine, row)
-            for machine in looked_at
-            for row in self.rows("/slots", machine=machine) or []
-        }
-        named = set(question.names())
-        if question.kind == "lot":
-            named = {
-                name
-                for name, (_, row) in mounted.items()
-                if question.is_of(name, row.part, row.lot)
-            }
-        for name in sorted({*named, *held, *(piece.reel for piece in told.pieces)}):
-            card = self.card(name)
-            if card is None and name in held:
-                yield held[name]
-            elif card and question.is_of(name, card.part, card.lot) and card.remaining:
-                machine, slot = "", ""
-                if name in mounted:
-                    machine, slot = mounted[name][0], mounted[name][1].slot
-                left = card.part, card.lot, card.remaining, card.state
-                yield Reel(name, *left, machine, slot, self.line.name, None)
-        if question.kind == "lot":
-            self.notes.append(
-                f"{self.line.name}: reels of the lot that came in after the last archive are known"
-                f" by the slots of {', '.join(looked_at) or 'no machine'} alone: look in the stock,"
-                " and at each other machine"
-            )

@@ -11,7 +11,6 @@ import tempfile
 from collections.abc import Iterable, Iterator
 
 from tracedesk_ops import catalogue, files, plant
-from tracedesk_ops import listing as listings
 from tracedesk_ops.recalls import certificate, signing
 from tracedesk_ops.recalls.certificate import Program, bytes_of
 from tracedesk_ops.recalls.desk import Question
@@ -100,9 +99,6 @@ def evidence(
     }
     if recall.question.reels:
         contents[LISTED] = listing(recall.question)
-    for number, (path, survey) in enumerate(recall.catalogues.items(), 1):
-        text = listings.text_of(path.parent, survey.archives)
-        contents[f"catalogue-{number}.csv"] = bytes_of(text)
     for number, line in enumerate(recall.lines, 1):
         if line.name in recall.proofs:
             contents[f"chain-{number}.csv"] = bytes_of(recall.proofs[line.name].text)
@@ -110,8 +106,6 @@ def evidence(
             answers = recall.desks[line.name].answers
             text = "".join(f"GET {target}\n{answer}\n" for target, answer in answers)
             contents[f"desk-{number}.txt"] = bytes_of(text)
-    for number, host in enumerate(recall.elsewhere, 1):
-        contents[certificate.evidence_of(number)] = host.evidence
     if shipped:
         contents["shipped.csv"] = read_once(shipped)
     return contents

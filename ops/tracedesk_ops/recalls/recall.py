@@ -6,7 +6,6 @@ import contextlib
 import datetime
 import functools
 import os
-import pathlib
 import sqlite3
 from collections.abc import Callable
 from typing import NamedTuple
@@ -20,11 +19,11 @@ from tracedesk_ops import (
     handling,
     model,
     plant,
-    store,
     story,
     untraced,
 )
 from tracedesk_ops.firstlook import Piece, Reel, Told
+from tracedesk_ops.line import LineFolder
 from tracedesk_ops.recalls.desk import RUNNING, Desk, Line, Question
 
 
@@ -52,14 +51,8 @@ class Asked(NamedTuple):
     why: str
 
 
-class Elsewhere(NamedTuple):
-    """Another computer that was asked: its evidence, and the desk and epoch of each of its
-    lines.
-    """
-
-    host: str
-    evidence: bytes
-    lines: dict[str, tuple[str, str]]
+def line_of(line: Line) -> LineFolder:
+    return LineFolder(line.folder)
 
 
 Wait = tuple[catalogue.Archive, "concurrent.futures.Future[Told]"]
@@ -75,16 +68,8 @@ class Recall:
         lines: list[Line],
         desk_of: Callable[[Line], Desk],
         chain: chains.Asker,
-        archives_only: bool = False,
-        take_elsewhere: Callable[[Recall], None] = lambda recall: None,
     ) -> None:
-        self.take_elsewhere = take_elsewhere
-        self.here = [line for line in lines if not line.host]
-        self.elsewhere: list[Elsewhere] = []
         self.question, self.lines, self.desk_of, self.chain = question, lines, desk_of, chain
-        self.archives_only = archives_only
-        self.words: list[str] = []  # of the question, as another computer gave them
-        self.token = ""  # by which that one knows that this answer is to its question
         self.minute = datetime.datetime.now(datetime.timezone.utc)
         self.known = False
         self.pieces: list[Piece] = []
@@ -94,21 +79,20 @@ class Recall:
         self.breaks: list[str] = []
         self.doubts: list[str] = []
         self.notes: list[str] = []
-        self.folders: dict[pathlib.Path, around.Folder] = {}  # by their catalogues
-        self.catalogues: dict[pathlib.Path, around.Survey] = {}
+        self.surveys: dict[str, around.Survey] = {}  # by line
+        self.stamps: dict[str, tuple[set[str], set[str]]] = {}  # of the files, as they were before
         self.desks: dict[str, Desk] = {}  # by line
-        self.running_desks: dict[str, model.Heads] = {}  # by line, if their file is at hand
         self.proofs: dict[str, chains.Answer] = {}  # by line
         self.untraced: list[list[str]] = []
         self.doubtful: list[list[str]] = []
 
     def ask(self) -> None:
         with concurrent.futures.ThreadPoolExecutor(os.cpu_count()) as threads:
-            waits = {line: self.begin(line, threads) for line in self.here}
+            waits = {line: self.begin(line, threads) for line in self.lines}
             proofs = {
                 line: threads.submit(
                     self.chain.ask,
-                    [catalogue.path_of(line.catalogue, it) for it, _ in its],
+                    [catalogue.path_of(line.folder, it) for it, _ in its],
                     [it.sha256[: model.DIGITS] for it, _ in its],
                     f"{line.name}: ",
                 )
@@ -117,17 +101,16 @@ class Recall:
                 and self.question.names()
                 and not any(future.exception() for _, future in its)
             }
-        for line in self.here:
+        for line in self.lines:
             self.running(line, self.archives(line, waits[line], proofs.get(line)))
-        for path, survey in self.catalogues.items():
-            if self.folders[path].survey() != survey:
+        for line in self.lines:
+            if around.stamp(line_of(line)) != self.stamps[line.name]:
                 self.faults.append(
-                    f"{path.parent}: it was changed meanwhile, or what is around it, as by a "
-                    "roll-over or a restore: ask again"
+                    f"{line.folder}: its files were changed meanwhile, as by a roll-over or a"
+                    " restore: ask again"
                 )
-        for path in self.catalogues:
-            self.look_for_untraced(path)
-        self.take_elsewhere(self)
+        for line in self.lines:
+            self.look_for_untraced(line)
         self.pieces.sort(key=lambda it: (it.board, it.line, it.designator))
         self.reels.sort(key=lambda it: (it[:-1], -1 if it.minute is None else it.minute))
         self.doubt()
@@ -137,18 +120,13 @@ class Recall:
         """Asks the archives of a line: pairs of the archive and what will be told, in the order of
         their chain.
         """
-        if line.catalogue not in self.catalogues:
-            self.survey(line.catalogue)
+        self.survey(line)
         own = self.own(line)
-        if not own and not line.url:
+        if not line.url:
+            until = f" that came after {own[-1].file}" if own else ""
             self.faults.append(
-                f"{line.name}: it has no running desk, and {line.catalogue.parent} has no archive"
-                " of it"
-            )
-        if not line.url and not self.archives_only:
-            self.faults.append(
-                f"{line.name}: its running desk is not asked, since its URL is `-`: say"
-                " --archives-only where none runs"
+                f"{line.name}: its running desk is not asked, since its URL is `-`: pieces{until}"
+                " are not in the answer"
             )
         return [
             (archive, threads.submit(firstlook.at, line, archive, self.question, False))
@@ -156,26 +134,21 @@ class Recall:
         ]
 
     def own(self, line: Line) -> list[catalogue.Archive]:
-        """The archives of a line, each behind the one from which it was begun."""
-        return [its for its in self.catalogues[line.catalogue].archives if its.desk == line.name]
+        """The sealed files that are asked, each behind the one from which it was begun. Without a
+        running desk its newest copy is one of them.
+        """
+        its = self.surveys[line.name]
+        return [*its.archives, *([its.last] if its.last and not line.url else [])]
 
-    def survey(self, path: pathlib.Path) -> None:
-        """Looks at a folder of archives: what nobody asks, or can ask, is a fault."""
-        lines = [line for line in self.here if line.catalogue == path]
-        names = [line.name for line in lines]
-        desks = [line.desk for line in lines if line.desk]
-        self.folders[path] = folder = around.Folder(path.parent, names, desks)
-        self.catalogues[path] = survey = folder.survey()
+    def survey(self, line: Line) -> None:
+        """Looks at a line's folder: what nobody asks, or can ask, is a fault."""
+        self.stamps[line.name] = around.stamp(line_of(line))
+        self.surveys[line.name] = survey = around.survey(line_of(line), line.name)
         self.faults += survey.faults
-        if not folder.is_there():
-            self.faults.append(f"{path.parent}: there is no such folder: mount its disk")
+        if not line.folder.is_dir():
+            self.faults.append(f"{line.folder}: there is no such folder: mount its disk")
         elif not survey.archives:
-            self.notes.append(f"{', '.join(sorted(names))}: no archives yet in {path.parent}")
-        for name in sorted({its.desk for its in survey.archives} - {*names, ""}):
-            self.faults.append(
-                f"{path.parent}: archives of the line {name} are not asked: no --line has that name"
-                " with this catalogue"
-            )
+            self.notes.append(f"{line.name}: no archives yet in {line.folder}")
 
     def archives(
         self, line: Line, waits: list[Wait], proof: concurrent.futures.Future[chains.Answer] | None
@@ -240,14 +213,13 @@ class Recall:
         status = getattr(fault, "status", None)
         if status == chains.NO_CHAIN:
             self.breaks.append(
-                f"{line.name}: {fault}: {line.catalogue} lacks an archive, or has them in another"
-                " order, or an old copy of one. Look at their first and last minutes, and at the"
-                " backups"
+                f"{line.name}: {fault}: {line.folder} lacks an archive, or has another one in its"
+                " place. Take it from a mirror"
             )
         elif status == chains.BEGUN:
             self.faults.append(
-                f"{line.name}: {fault}, and {line.catalogue.parent} doesn't have that archive: take"
-                " it from a copy"
+                f"{line.name}: {fault}, and {line.folder} doesn't have that archive: take it from a"
+                " mirror"
             )
         else:
             self.faults.append(
@@ -260,55 +232,38 @@ class Recall:
         as the newest archive says.
         """
         held: list[Reel] = []
-        machines: set[str] = set()
         try:
             for it in archives[-1:]:
-                with catalogue.opened(catalogue.path_of(line.catalogue, it)) as database:
-                    held, machines = firstlook.left_in(
-                        database, line, self.question, it.last_minute
-                    )
+                with catalogue.opened(catalogue.path_of(line.folder, it)) as database:
+                    held = firstlook.left_in(database, line, self.question, it.last_minute)
         except sqlite3.Error as fault:
             self.faults.append(f"{line.name}: {it.file}: {fault}")
-        left = (
-            self.ask_desk(line, archives, {it.reel: it for it in held}, machines)
-            if line.url
-            else None
-        )
+        left = self.ask_desk(line) if line.url else None
         self.reels += held if left is None else left
 
-    def ask_desk(
-        self,
-        line: Line,
-        archives: list[catalogue.Archive],
-        held: dict[str, Reel],
-        machines: set[str],
-    ) -> list[Reel] | None:
-        """Asks a running desk; what is left of the reels, none where it doesn't tell. Its file,
-        where it is at hand, has all of them.
-        """
+    def ask_desk(self, line: Line) -> list[Reel] | None:
+        """Asks a running desk; what is left of the reels by its file, none if that is not at hand."""
         about = About(line.name, RUNNING)
         desk = self.desks.setdefault(line.name, self.desk_of(line))
-        ends = [its for its in self.own(line) if not its.went_on_to]
-        newest = ends[-1] if ends else None
+        newest = next(reversed(self.own(line)), None)
         try:
-            self.faults += desk.want_line(
-                next((it for it in archives if newest and it.file == newest.file), newest)
-            )
+            self.faults += desk.want_line(newest)
             told = desk.pieces_of(self.question)
         except plant.Fault as fault:
             self.miss(about, fault)
             return None
         left: list[Reel] | None = None
         try:
-            its = self.by_its_file(line, desk, newest, told)
-            if its:
+            if its := self.by_its_file(line, desk, newest, told):
                 told, left = its
             elif told.known and self.question.kind != "board":
-                left = list(desk.stock(self.question, told, held, machines))
-                self.notes += desk.notes
+                self.faults.append(
+                    f"{line.name}: what is left of it is told as of the newest archive, since the"
+                    " running desk's file is not at hand"
+                )
         except (plant.Fault, catalogue.CatalogueError) as fault:
             self.faults.append(
-                f"{line.name}: what is left of it is told as of the last archive: {fault}"
+                f"{line.name}: what is left of it is told as of the newest archive: {fault}"
             )
         self.take(about, told)
         return left if told.known and self.question.kind != "board" else None
@@ -319,28 +274,20 @@ class Recall:
         """What a running desk told, with the minutes of the pieces, and what is left of the reels,
         by its file; None if that is not at hand.
         """
-        file = line.desk or line.catalogue.parent.parent / "desk"
+        file = line_of(line).desk
         with contextlib.suppress(OSError), doubtful.copied(file) as database:
-            if not doubtful.why_not(file, database, [newest] if newest else [], [desk.has]):
-                self.running_desks[line.name] = store.heads_in(database)
-                left = firstlook.left_in(database, line, self.question)[0]
+            if not doubtful.why_not(file, database, [newest] if newest else [], desk.has):
+                left = firstlook.left_in(database, line, self.question)
                 timed = firstlook.with_minutes(database, told.pieces)
                 return Told(told.known or bool(left), timed), left
         return None
 
-    def look_for_untraced(self, path: pathlib.Path) -> None:
-        """What is around a catalogue: work that a desk refused, what was decided about it, and the
-        pieces of the question that may be of another reel.
+    def look_for_untraced(self, line: Line) -> None:
+        """What is around a line's files: work that a desk refused, what was decided about it, and
+        the pieces of the question that may be of another reel.
         """
-        lines = [it for it in self.here if it.catalogue == path]
-        name, asked = "; ".join(it.name for it in lines), [it.name for it in lines]
-        running = [(it.desk, functools.partial(self.has, it)) for it in lines if it.url]
-        its = doubtful.look(
-            path,
-            [it for it in self.catalogues[path].archives if it.desk in asked],
-            bool(running),
-            running,
-        )
+        name, has = line.name, functools.partial(self.has, line) if line.url else None
+        its = doubtful.look(line.folder, self.own(line), bool(line.url), has)
         self.faults += its.faults
         self.notes += its.notes
         for it, by, reels in its.works:
@@ -420,10 +367,6 @@ class Recall:
             self.notes.append(
                 "a piece that lies in a running desk has no minute here, since the desk's file is"
                 " not at hand: it was placed after the line's last archive"
-            )
-        if self.archives_only and (without := [it.name for it in self.here if not it.url]):
-            self.notes.append(
-                f"no running desk was asked of {', '.join(without)}, by --archives-only"
             )
 
     def status(self) -> int:

@@ -11,13 +11,13 @@ import sqlite3
 from collections.abc import Iterable, Iterator, Sequence
 from typing import NamedTuple
 
-from tracedesk_ops import around, attributes, catalogue, copies, doubtful, store, stored
+from tracedesk_ops import around, attributes, catalogue, copies, doubtful, heads, sealed, stored
+from tracedesk_ops.line import LineFolder
 from tracedesk_ops.recalls.desk import Line, Question
 
 REELS = "SELECT reel, part, lot FROM reel"
 MOVES = "SELECT uid, command FROM accepted WHERE uid >= 'move-' AND uid < 'move.'"
 MOVE = re.compile(r"(move-.+-\d+-\d+?)(-left)?-\d+")
-KNOWN_TO_DESKS = ("reel", "part", "lot")
 MOST_NAMED = 20  # reels in a message
 
 
@@ -58,18 +58,14 @@ def terms_of(words: Iterable[str]) -> Terms:
     return Terms(values)
 
 
-OLD, NEW = "old", "new"  # the side of a move on which a reel has a name
-Move = tuple[str, str, str]  # the beginning of its UniqueIDs, a side, and a reel
-
-
 class Known:
-    """What the files of all lines know of reels: `cards` has a reel's part and lot, `old` and `new`
-    the names of each move, `books` the heads that desks have recorded of books, and `faults` what
-    could not be looked at.
+    """What the files of all lines know of reels: `cards` has the parts and lots of each name, `old`
+    and `new` the names of each move, `books` the heads that desks have recorded of books, and
+    `faults` what could not be looked at.
     """
 
     def __init__(self, lines: Sequence[Line]) -> None:
-        self.cards: dict[str, attributes.Reel] = {}
+        self.cards: dict[str, dict[attributes.Reel, None]] = collections.defaultdict(dict)
         self.old: dict[str, set[str]] = collections.defaultdict(
             set
         )  # by the beginning of UniqueIDs
@@ -81,13 +77,13 @@ class Known:
                 try:
                     with opened(file, is_running) as database:
                         self.read(database)
-                        self.books[line.catalogue.parent].update(store.heads_in(database).books)
+                        self.books[line.folder].update(heads.all_recorded_in(database))
                 except (OSError, sqlite3.Error, catalogue.CatalogueError) as fault:
                     self.faults.append(f"{line.name}: the reels of {file} aren't known: {fault}")
 
     def read(self, database: sqlite3.Connection) -> None:
         for row in copies.rows(database, REELS):
-            self.cards[row[0]] = attributes.Reel(*row)
+            self.cards[row[0]][attributes.Reel(*row)] = None
         for uid, command in copies.rows(database, MOVES):
             if found := MOVE.fullmatch(uid):
                 word, body = stored.body(command)
@@ -96,14 +92,15 @@ class Known:
                 elif word == "CountsTaken" and found[2]:
                     self.old[found[1]].update(row["Reel"] for row in body["Counts"])
 
-    def moves(self) -> Iterator[Move]:
-        for side, names in ((OLD, self.old), (NEW, self.new)):
-            yield from ((move, side, reel) for move, reels in names.items() for reel in reels)
-
-    def learn(self, moves: Iterable[Move]) -> None:
-        """Adds moves that are known elsewhere."""
-        for move, side, reel in moves:
-            (self.old if side == OLD else self.new)[move].add(reel)
+    def twice(self, reels: Iterable[str]) -> Iterator[str]:
+        """Which of these names are of several receipts: a set of reels is a set of names."""
+        for reel in sorted(reels):
+            if len(cards := self.cards[reel]) > 1:
+                lots = " and of ".join(f"{card.part}, lot {card.lot}" for card in cards)
+                yield (
+                    f"the name {reel} is of {lots}: boards of each are in the answer. Ask for one"
+                    " lot at a time"
+                )
 
     def followed(self, reels: Iterable[str]) -> list[str]:
         """The reels with all names that they have had."""
@@ -141,14 +138,12 @@ class Asked(NamedTuple):
 
 def files_of(line: Line) -> Iterator[tuple[pathlib.Path, bool]]:
     """The archives of a line, and the running desk's file."""
-    reader = store.Reader(believes_names=True, without_logs=True)
-    desks = [line.desk] if line.desk else []
-    folder = around.Folder(line.catalogue.parent, [line.name], desks, reader)
-    for archive in folder.survey().archives:
-        if archive.desk == line.name:
-            yield catalogue.path_of(line.catalogue, archive), False
+    survey = around.survey(LineFolder(line.folder), line.name, sealed.named)
+    last = [survey.last] if survey.last and not line.url else []
+    for archive in (*survey.archives, *last):
+        yield catalogue.path_of(line.folder, archive), False
     if line.url:
-        yield line.desk or line.catalogue.parent.parent / "desk", True
+        yield LineFolder(line.folder).desk, True
 
 
 @contextlib.contextmanager
@@ -174,12 +169,12 @@ def question_of(kind: str, names: Sequence[str], part: str, lines: Sequence[Line
         its = Question("reels", title(kind, reels, ""), "", tuple(reels))
         return Asked(its if len(reels) > 1 else Question(kind, names[0]), [], notes, known)
     if kind == "lot":
-        cards = known.cards.values()
-        of_lots = [its.reel for its in cards if its.lot in names and part in ("", its.part)]
+        cards = [card for those in known.cards.values() for card in those]
+        of_lots = {its.reel for its in cards if its.lot in names and part in ("", its.part)}
         its = Question("reels", title(kind, names, part), "", tuple(sorted(of_lots)))
         unknown = [lot for lot in names if not any(card.lot == lot for card in cards)]
         notes = [f"no line here knows the lot {lot}" for lot in unknown]
-        return Asked(its, known.faults, notes)
+        return Asked(its, [*known.faults, *known.twice(of_lots)], notes)
     return where(terms_of(names), known, lines)
 
 
@@ -189,13 +184,15 @@ def where(terms: Terms, known: Known, lines: Sequence[Line]) -> Asked:
     """
     faults = list(known.faults)
     told: dict[str, attributes.Reel] = {}
-    for archive in dict.fromkeys(line.catalogue.parent for line in lines):
-        rows, wrong = attributes.rows_of(archive, known.books[archive])
+    for line in lines:
+        rows, wrong = attributes.rows_of(LineFolder(line.folder).sealed, known.books[line.folder])
         told |= attributes.newest(rows)
         faults += wrong
-    for reel, card in known.cards.items():  # what a desk knows counts
-        told[reel] = told.get(reel, card)._replace(part=card.part, lot=card.lot)
-    lacking = sorted(reel for reel, its in told.items() if terms.lack(its))
+    those = {reel: [its] for reel, its in told.items()}
+    for reel, cards in known.cards.items():  # what a desk knows counts
+        its = [told.get(reel, card)._replace(part=card.part, lot=card.lot) for card in cards]
+        those[reel] = its
+    lacking = sorted(reel for reel, its in those.items() if any(map(terms.lack, its)))
     if lacking:
         named = ", ".join(lacking[:MOST_NAMED])
         more = f" and {len(lacking) - MOST_NAMED} more" if len(lacking) > MOST_NAMED else ""
@@ -203,5 +200,7 @@ def where(terms: Terms, known: Known, lines: Sequence[Line]) -> Asked:
             f"the attributes of {len(lacking)} reels aren't known, so they may be of this recall:"
             f" {named}{more}. Give them by tracedesk-reels add"
         )
-    reels = known.followed(sorted(reel for reel, its in told.items() if terms.take(its)))
+    taken = sorted(reel for reel, its in those.items() if any(map(terms.take, its)))
+    reels = known.followed(taken)
+    faults += known.twice(taken)
     return Asked(Question("reels", str(terms), "", tuple(reels)), faults, [], known)

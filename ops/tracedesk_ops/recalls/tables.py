@@ -108,9 +108,7 @@ def page(recall: Recall, tables: dict[str, Table], shipped: Shipped | None, vers
     kind = recall.question.kind
     title = html.escape(title_of(recall.question))
     asked, missing = len(recall.asked), sum(1 for it in recall.asked if it.why)
-    is_old = recall.archives_only and not any(line.url for line in recall.lines)
-    files = "archives and no running desk" if is_old else "desks and archives"
-    head = f'<p class="whole">All were asked: {asked} {files}.</p>'
+    head = f'<p class="whole">All were asked: {asked} desks and archives.</p>'
     if recall.faults or recall.breaks:
         head = (
             '<div class="missing">NOT ALL WERE ASKED, or the archives are no chain. The answer may'

@@ -10,7 +10,7 @@ import re
 from collections.abc import Iterator, Sequence
 from typing import Any
 
-from tracedesk_ops import catalogue, chains, model, plant, store
+from tracedesk_ops import catalogue, chains, files, model, plant
 from tracedesk_ops.recalls import certificate, signing
 from tracedesk_ops.recalls.certificate import LISTED, bytes_of
 from tracedesk_ops.recalls.evidence import Contents, sums_of
@@ -155,6 +155,6 @@ def file_of(folders: Sequence[pathlib.Path], name: str, sha256: str) -> pathlib.
     if not there:
         raise Refused(f"the archive {name} is in none of the folders of --archives")
     for file in there:
-        if store.sha256_of(file) == sha256:
+        if files.sha256_of(file) == sha256:
             return file
     raise Refused(f"{there[0]} is another archive: its checksum is not that of the certificate")

@@ -1,0 +1,23 @@
+"""The messages of a desk that goes on from a file, as a roll-over says them: for tests and cases.
+
+    begun.messages_of(pathlib.Path("sealed/9f2c..desk"))
+"""
+from __future__ import annotations
+
+import pathlib
+
+from tracedesk_ops import carry, copies, sealed
+
+
+def begun(
+    file: pathlib.Path, at: int | None = None, loads: bool = True
+) -> tuple[list[str], list[str]]:
+    """The messages, and what the new desk doesn't know. `at` is its minute, if that is another."""
+    with copies.copied(file) as copy:
+        copies.fold(copy)
+        lines, carrier = carry.begun(carry.Archive(copy), sealed.digits_of(copy), at, loads)
+    return [str(line) for line in lines], [*carrier.notes()]
+
+
+def messages_of(file: pathlib.Path, at: int | None = None, loads: bool = True) -> list[bytes]:
+    return [line.encode() for line in begun(file, at, loads)[0]]
