@@ -53,6 +53,24 @@ def test_a_line_that_is_a_folder_has_its_places_there(
         assert (its.db, its.archive) == (folder / "desk", folder / "sealed")
 
 
+def test_a_line_that_this_user_may_not_look_into_stops_no_other(
+    set_up: SetUp, tmp_path: pathlib.Path, monkeypatch: pytest.MonkeyPatch
+) -> None:
+    home, is_dir = tmp_path / "home", pathlib.Path.is_dir
+
+    def refused(path: pathlib.Path) -> bool:
+        if home in path.parents:
+            raise PermissionError(13, "Permission denied", str(path))
+        return is_dir(path)
+
+    monkeypatch.setattr(places, "HOME", home)
+    monkeypatch.setattr(pathlib.Path, "is_dir", refused)
+    set_up("L1", line="L1", port=8081)
+    set_up("L2", line="L2", db="/srv/l2/desk", port=8082)
+    first, other = places.lines()
+    assert (first.db, other.db) == (home / "L1" / "desk", pathlib.Path("/srv/l2/desk"))
+
+
 @pytest.mark.parametrize(
     "words, wrong",
     [

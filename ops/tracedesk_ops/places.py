@@ -71,7 +71,17 @@ def of_words(words: dict[str, str]) -> Places:
 
 def desk_of(line: str) -> Path:
     """The desk of a line, if nobody says: in the line's folder, or the package's one."""
-    return HOME / line / DESK.name if line and (HOME / line).is_dir() else DESK
+    return HOME / line / DESK.name if line and is_folder(HOME / line) else DESK
+
+
+def is_folder(path: Path) -> bool:
+    """Whether a folder is there. One that this user may not look into is somebody's line: a tool
+    for another line goes on.
+    """
+    try:
+        return path.is_dir()
+    except PermissionError:
+        return True
 
 
 def lines() -> list[Places]:

@@ -103,9 +103,9 @@ def parse() -> argparse.Namespace:
             asked.terms = sets.terms_of(asked.words)
         except ValueError as fault:
             reader.error(str(fault))
-    if not asked.archive.is_dir():
+    if not places.is_folder(asked.archive):
         reader.error(
-            f"there is no folder {asked.archive}: --archive names that of the line's archives"
+            f"there is no folder {asked.archive}: --archive names that of the line's sealed files"
         )
     return asked
 
