@@ -59,7 +59,7 @@ CREATE OR REPLACE VIEW missing AS
         WHERE oldest IS NOT NULL AND coalesce(moment(taken) < now() - oldest, true);
 -- work that the desk of a line refused: it is in no trace, and it counts until a person decided what became of it
 CREATE TABLE IF NOT EXISTS untraced (
-    line       text NOT NULL,                   -- or several, as 'L1; L2', where they share a catalogue
+    line       text NOT NULL,
     id         text NOT NULL,                   -- of its record
     at         text NOT NULL,
     machine    text NOT NULL,

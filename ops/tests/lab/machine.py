@@ -43,7 +43,7 @@ HERE = {  # commands, and the packages that bring them
 THERE = (
     "systemd,systemd-sysv,dbus,procps,iproute2,ca-certificates"
     ",nginx-light,openssl,curl,python3"  # docs/operations-install.md
-    ",postgresql,postgresql-15-plproxy,python3-psycopg"  # docs/plant.md
+    ",postgresql,python3-psycopg"  # docs/plant.md
     ",python3-flask,python3-waitress,weasyprint,python3-xlsxwriter"  # docs/recall.md
     ",jq"  # docs/machines.md
     ",python3-pytest"
