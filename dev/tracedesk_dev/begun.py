@@ -15,7 +15,7 @@ def begun(
     """The messages, and what the new desk doesn't know. `at` is its minute, if that is another."""
     with copies.copied(file) as copy:
         copies.fold(copy)
-        lines, carrier = carry.begun(carry.Archive(copy), sealed.digits_of(copy), at, loads)
+        lines, carrier = carry.begun(carry.DeskTables(copy), sealed.digits_of(copy), at, loads)
     return [str(line) for line in lines], [*carrier.notes()]
 
 

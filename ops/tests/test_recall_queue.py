@@ -17,7 +17,7 @@ from lab.waits import wait_for
 from tracedesk_dev import processes
 from tracedesk_ops.cmd import recall
 from tracedesk_ops.recallpage import jobs, pages, papers, view
-from tracedesk_ops.recallpage.jobs import Asked, Queue
+from tracedesk_ops.recallpage.jobs import JobQuestion, Queue
 from tracedesk_ops.recallpage.worker import Worker
 
 pytestmark = [pytest.mark.needs("python:flask"), pytest.mark.xdist_group("recall_page")]
@@ -29,8 +29,8 @@ def queue(folder: pathlib.Path) -> Queue:
     return Queue(folder / "queue")
 
 
-def asked(*names: str, kind: str = "lot", part: str = "") -> Asked:
-    return Asked(kind, names, part, "anna", "2026-03-02 06:00 UTC")
+def asked(*names: str, kind: str = "lot", part: str = "") -> JobQuestion:
+    return JobQuestion(kind, names, part, "anna", "2026-03-02 06:00 UTC")
 
 
 def worker(queue: Queue, text: str, **more: Any) -> Worker:
@@ -115,7 +115,7 @@ def test_long_cells_are_set_in_moderate_time(folder: pathlib.Path) -> None:
     long = " ".join(f"C{number}" for number in range(1_500))
     rows = [[f"B{number}", long, long] for number in range(20)]
     tables = [view.Table("Untraced work", ["Board", "Work", "Reels"], rows)]
-    answer = view.Answer("lot L", False, "NOT COMPLETE", [long], [long], tables, [], [])
+    answer = view.ShownAnswer("lot L", False, "NOT COMPLETE", [long], [long], tables, [], [])
     text = pages.paper(view.brief(answer, papers.MOST_LETTERS), papers.MOST_ON_PAPER)
     before = time.process_time()
     weasyprint.HTML(string=text).write_pdf(str(folder / "a.pdf"))

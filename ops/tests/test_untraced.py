@@ -12,7 +12,7 @@ import pytest
 from lab import messages
 from lab.killed import killed_at
 from lab.records import a_record, boards, make_inbox, refused
-from tracedesk_ops import catalogue, handling, plant, story, untraced
+from tracedesk_ops import catalogue, doubted, handling, plant, story, untraced
 
 ALL = ["B0", "B1", "B2"]
 MOST_WRITES = 100  # of a collect
@@ -285,8 +285,8 @@ def other_reel(piece: Any) -> str:
 @pytest.mark.parametrize("name", STORIES)
 def test_what_a_refusal_makes_doubtful(name: str) -> None:
     word, refusal, accepted, wanted = STORIES[name]
-    story = story_of(word, refusal, accepted)
-    got = [(piece.board, other_reel(piece)) for piece in story.pieces() if WHY in piece.why]
+    pieces = doubted.Doubted(story_of(word, refusal, accepted)).pieces()
+    got = [(piece.board, other_reel(piece)) for piece in pieces if WHY in piece.why]
     assert got == wanted
 
 
@@ -298,8 +298,8 @@ def test_whom_a_reel_concerns_that_the_desk_does_not_know(
     kind: str, name: str, concerns: bool
 ) -> None:
     accepted = [spliced(6, "R3"), placed(7, "R3")]
-    story = story_of("MaterialsSpliced", "UnknownReel", accepted, ("R1", "R3"))
-    assert story.concerns(story.pieces()[0], kind, name) == concerns
+    told = story_of("MaterialsSpliced", "UnknownReel", accepted, ("R1", "R3"))
+    assert told.concerns(doubted.Doubted(told).pieces()[0], kind, name) == concerns
 
 
 def test_a_board_that_is_kept_may_have_each_reel_of_its_machine() -> None:
@@ -311,17 +311,17 @@ def test_a_board_that_is_kept_may_have_each_reel_of_its_machine() -> None:
     works = {"M": ["R1", "R2", "R3"], "N": [""]}
     for machine, reels in works.items():
         said = messages.message("MaterialsInstalled", "w", at, Machine=machine, Board="B\r")
-        rows = [*told.kept(untraced.record_of(refused(said, "NotInWork", at)[1]))]
+        rows = [*doubted.kept(told, untraced.record_of(refused(said, "NotInWork", at)[1]))]
         assert sorted(row.reel for row in rows) == reels
         assert {(row.board, row.machine) for row in rows} == {("B\\r", machine)}
         for kind, name in (("reel", "R2"), ("lot", "L-R1"), ("board", "B\\r")):
             assert any(told.concerns(row, kind, name) for row in rows)
     text = '{"Answer":{"Answer":"Faulty"},"At":"x","Kind":"refused","Message":{}}\n'
-    (row,) = told.kept(untraced.record_of(text.encode()))
+    (row,) = doubted.kept(told, untraced.record_of(text.encode()))
     assert all(told.concerns(row, *its) for its in (("lot", "L"), ("reel", "R"), ("board", "B")))
-    for word in story.NO_PIECES:
+    for word in doubted.NO_PIECES:
         said = messages.message(word, "w", at, Machine="M", Board="B", Slot="1", Quantity=1)
-        assert not [*told.kept(untraced.record_of(refused(said, "NotInWork", at)[1]))]
+        assert not [*doubted.kept(told, untraced.record_of(refused(said, "NotInWork", at)[1]))]
 
 
 @pytest.mark.parametrize("text", ["0001-01-01T00:00:00+14:00", "9999-12-31T23:59:59-14:00"])

@@ -42,7 +42,7 @@ class Reel(NamedTuple):
     order: str = ""
 
 
-class Row(NamedTuple):
+class AttributeRow(NamedTuple):
     """A row of the book: a reel, when it was written, by whom, and its chain."""
 
     its: Reel
@@ -73,7 +73,7 @@ def note_of(archive: pathlib.Path) -> pathlib.Path:
     return archive.with_name(model.INBOX) / NOTE
 
 
-def read(archive: pathlib.Path) -> list[Row]:
+def read(archive: pathlib.Path) -> list[AttributeRow]:
     """The rows of a line's book; none if it was never begun. A Fault if it is not as it was
     written.
     """
@@ -107,12 +107,12 @@ def said_by(noted: pathlib.Path) -> tuple[int, str]:
         raise ValueError(f"{noted} is damaged: {fault!r}") from fault
 
 
-def parsed(path: pathlib.Path, text: str) -> list[Row]:
+def parsed(path: pathlib.Path, text: str) -> list[AttributeRow]:
     """The rows of a book's whole lines; a last line without its end was cut off, and is none
     yet.
     """
     rows = catalogue.csv_rows(text[: text.rfind("\n") + 1])
-    found: list[Row] = []
+    found: list[AttributeRow] = []
     before = BEGIN
     for number, row in enumerate(rows, 1):
         if number == 1 and row == list(HEADER):
@@ -126,7 +126,7 @@ def parsed(path: pathlib.Path, text: str) -> list[Row]:
             raise ValueError(
                 f"line {rows.line_num} is not as it was written: take it from a mirror"
             )
-        found.append(Row(its, at, by, chain))
+        found.append(AttributeRow(its, at, by, chain))
     return found
 
 
@@ -140,7 +140,7 @@ def head_of(archive: pathlib.Path) -> str:
     return ""
 
 
-def rows_of(archive: pathlib.Path, recorded: Iterable[str]) -> tuple[list[Row], list[str]]:
+def rows_of(archive: pathlib.Path, recorded: Iterable[str]) -> tuple[list[AttributeRow], list[str]]:
     """The rows of a line's book, and what is wrong with it: it is not as it was written, or lacks a
     row whose head its desk has recorded.
     """
@@ -152,7 +152,7 @@ def rows_of(archive: pathlib.Path, recorded: Iterable[str]) -> tuple[list[Row], 
     return rows, [heads.lacked_by(archive / FILE_NAME)] if is_lost else []
 
 
-def newest(rows: Iterable[Row]) -> dict[str, Reel]:
+def newest(rows: Iterable[AttributeRow]) -> dict[str, Reel]:
     """What is known of each reel."""
     return {row.its.reel: row.its for row in rows}
 
@@ -186,7 +186,7 @@ def fill(archive: pathlib.Path, received: Iterable[tuple[Reel, str]], at: str) -
 
 
 def extend(
-    archive: pathlib.Path, rows: Sequence[Row], new: Sequence[tuple[Reel, str]], at: str
+    archive: pathlib.Path, rows: Sequence[AttributeRow], new: Sequence[tuple[Reel, str]], at: str
 ) -> None:
     """Appends reels to a book that has these rows, each with who gave its attributes."""
     before = rows[-1].chain if rows else BEGIN

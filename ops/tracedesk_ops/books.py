@@ -21,7 +21,7 @@ def record(archive: Path) -> bool:
     try:
         for its in places.all_of(archive):
             heads.give(its.port, heads_of(archive))
-    except heads.NoAnswer:
+    except heads.NoHead:
         return False
     return True
 

@@ -47,7 +47,7 @@ class NotCarried(Exception):
     """Why no messages can be made of a file."""
 
 
-class Reel(NamedTuple):
+class ReelRow(NamedTuple):
     """A row of the table reel."""
 
     reel: str
@@ -94,12 +94,12 @@ class Setup(NamedTuple):
 Known = tuple[int, str, str, int]  # number, UniqueID, source and own minute of a command
 SheetRow = tuple[str, str, list[str]]  # slot, part, designators
 Mount = tuple[
-    int, str, str, Reel, bool
+    int, str, str, ReelRow, bool
 ]  # minutes before the end, machine, slot, reel, is it a splice
 Opener = Callable[[pathlib.Path], contextlib.AbstractContextManager[sqlite3.Connection]]
 
 
-class Archive:
+class DeskTables:
     """What the tables of a desk's file say; the file is opened as `opened` does it."""
 
     def __init__(self, path: pathlib.Path, opened: Opener = copies.opened) -> None:
@@ -130,11 +130,11 @@ class Archive:
             )
         self.selected = dict(rows("SELECT machine, product FROM selected ORDER BY machine"))
         self.reels = {
-            row[0]: Reel(*row)
+            row[0]: ReelRow(*row)
             for row in rows(f"SELECT {COLUMNS} FROM reel WHERE remaining > 0 ORDER BY reel")
         }
         self.spent = {reel for (reel,) in rows("SELECT reel FROM reel WHERE remaining = 0")}
-        self.tapes: dict[tuple[str, str], list[Reel]] = {}
+        self.tapes: dict[tuple[str, str], list[ReelRow]] = {}
         for machine, slot, reel in rows(
             "SELECT machine, slot, reel FROM mount ORDER BY machine, slot, since"
         ):
@@ -156,7 +156,7 @@ class Archive:
 
     def of_one_reel(
         self, name: str, called: str, known_parts: Container[str], minute: int
-    ) -> Archive:
+    ) -> DeskTables:
         """A desk that has nothing but this reel, as it is at that minute, under the name by which
         it is called there.
         """
@@ -193,12 +193,12 @@ def known(database: sqlite3.Connection, begun: int) -> list[Known]:
     ).fetchall()
 
 
-def judged(path: pathlib.Path, program: str) -> Archive:
+def judged(path: pathlib.Path, program: str) -> DeskTables:
     """What the tables of a desk's file say, once an audit has found its copy lawful: else a changed
     bit would go to another desk.
     """
     with copies.copied(path) as copy_of_it:
-        archive = Archive(copy_of_it, copies.database)
+        archive = DeskTables(copy_of_it, copies.database)
         plant.Program(program, copy_of_it).audit(copy_of_it)
         return archive
 
@@ -256,7 +256,7 @@ class Messages:
 class Carrier:
     """Tells an archived desk to a new one whose last minute is `end`."""
 
-    def __init__(self, archive: Archive, messages: Messages, end: int, loads: bool) -> None:
+    def __init__(self, archive: DeskTables, messages: Messages, end: int, loads: bool) -> None:
         self.archive, self.messages, self.end = archive, messages, end
         self.exposure = {
             name: reel.exposure(archive.minute) for name, reel in archive.reels.items()
@@ -344,7 +344,7 @@ class Carrier:
         told.sort(key=lambda move: (-move[0], move[1]))
         return [(before, say) for before, _, say in told]
 
-    def mount(self, minute: int, machine: str, slot: str, reel: Reel, is_splice: bool) -> None:
+    def mount(self, minute: int, machine: str, slot: str, reel: ReelRow, is_splice: bool) -> None:
         """Puts a reel where it is, though the sheet may have changed since it was put there."""
         archive, product = self.archive, self.archive.selected[machine]
         sheet = archive.sheets[product, machine]
@@ -402,7 +402,7 @@ class Carrier:
 
 
 def begun(
-    archive: Archive,
+    archive: DeskTables,
     checksum: str,
     at: int | None = None,
     loads: bool = True,

@@ -79,7 +79,7 @@ def seal(asked: argparse.Namespace) -> int:
     made = sealing.seal(line, asked.port, audit_of(asked))
     faults = [*swept(line, made), *books.faults_of(line)]
     if asked.port and plant.is_open(line.desk):  # by now it is known to be this desk's
-        with contextlib.suppress(heads.NoAnswer):
+        with contextlib.suppress(heads.NoHead):
             heads.give(asked.port, books.heads_of(line.sealed))
     plant.write_out(f"{made.path}: lawful {made.commands}\n")
     return told(faults, SEE_TO_IT)

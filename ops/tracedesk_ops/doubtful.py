@@ -32,12 +32,14 @@ from collections.abc import Callable, Iterator, Sequence
 from typing import NamedTuple, Optional
 
 from tracedesk import records
-from tracedesk_ops import catalogue, copies, files, heads, model, plant, sealed, untraced
-from tracedesk_ops.handling import Piece, minute_of, work_of
+from tracedesk_ops import catalogue, copies, doubted, files, heads, model, plant, sealed, untraced
+from tracedesk_ops.handling import DoubtfulPiece, minute_of, work_of
 from tracedesk_ops.line import LineFolder
 from tracedesk_ops.story import TAKEN_OFF, Story
 
 Opener = Callable[[], contextlib.AbstractContextManager[sqlite3.Connection]]
+Decisions = dict[str, untraced.Record]  # the newest one of each record, by its id
+SINCE = "whether pieces since the last archive may be of other reels isn't known"
 Has = Callable[[str], Optional[bool]]  # whether a running desk has a UniqueID; None: no answer
 
 
@@ -57,15 +59,13 @@ def copied(file: pathlib.Path) -> Iterator[sqlite3.Connection]:
 # --- All of a line
 
 
-class Line(NamedTuple):
+class Doubts(NamedTuple):
     """What is known of a line besides its traces: untraced work, each with its decision or none and
-    the reels that were on its machine; pieces in doubt; what could not be looked at; and what a
-    reader has to know."""
+    the reels that were on its machine; pieces in doubt; and what could not be looked at."""
 
     works: list[tuple[untraced.Record, untraced.Record | None, str]]
-    pieces: list[Piece]
+    pieces: list[DoubtfulPiece]
     faults: list[str]
-    notes: list[str]
     story: Story
 
 
@@ -74,68 +74,88 @@ def look(
     archives: list[catalogue.Archive],
     is_running: bool = False,
     has: Has | None = None,
-) -> Line:
+) -> Doubts:
     """Looks at what is around a line's files. The archives are in the order of their chain. If a
     desk runs, its file in the folder is read too; `has` says whether the running desk has a
     UniqueID, or None.
     """
     archive = LineFolder(folder).sealed
-    notes: list[str] = []
-    book, faults, pieces = untraced.read(archive), [], []
-    recorded: set[str] = set()  # a roll-over carries the newest head of a book alone
+    book = untraced.read(archive)
     refused, decided = untraced.refused(book.records), untraced.decisions(book.records)
     works = [it for it in refused if untraced.is_work(it)]
     differing = untraced.differing(book.records)
-    story = Story(
-        map(work_of, works),
-        [
-            it
-            for it in refused
-            if not untraced.is_work(it)
-            and not (it.id in decided and decided[it.id].told["Became"] == TAKEN_OFF)
-        ],
-    )
+    story = story_of(refused, decided)
+    recorded: set[str] = set()  # a roll-over carries the newest head of a book alone
+    pieces: list[DoubtfulPiece] = []
+    faults: list[str] = []
     try:
         with contextlib.ExitStack() as held:
             files: dict[str, Opener] = {  # one archive is open at a time: there may be many
-                it.file: functools.partial(catalogue.unchanged, folder, it, False)
-                for it in archives
+                it.file: functools.partial(catalogue.unchanged, folder, it) for it in archives
             }
             if is_running:
                 copy, why = running_file(LineFolder(folder).desk, archives, has, held)
-                if copy:
-                    files[catalogue.RUNNING] = held_open(copy)
-                else:
-                    faults.append(
-                        f"{why}: whether pieces since the last archive may be of other reels isn't"
-                        " known"
-                    )
-            for name, opened in files.items():
-                with opened() as database:
-                    story.read(name, database)
-                    recorded.update(heads.all_recorded_in(database))
-            for place, opened in enumerate(files.values()):
-                with opened() as database:
-                    story.place(place, database)
-        pieces = story.pieces()
-        for record in differing:
-            is_out = record.id in decided and not untraced.is_shipped(decided[record.id])
-            pieces += () if is_out else story.contradicted(record)
-        for record in works:
-            pieces += story.kept(record) if untraced.is_shipped(decided.get(record.id)) else ()
+                files |= {catalogue.RUNNING: held_open(copy)} if copy else {}
+                faults += [f"{why}: {SINCE}"] if why else []
+            recorded |= tell(story, files)
+        pieces = pieces_of(story, works, differing, decided)
     except (catalogue.CatalogueError, OSError, sqlite3.Error) as fault:
         faults.append(f"{folder}: whether pieces may be of other reels isn't known: {fault}")
     faults += untraced.missing(archive, recorded)
-    return Line(
+    return Doubts(
         [
             *((it, decided.get(it.id), story.reels_of(work_of(it))) for it in works),
             *((it, decided[it.id], it.told["DeskReel"]) for it in differing if it.id in decided),
         ],
         pieces,
         [*book.faults, *faults, *waiting(archive.with_name(model.STATUS))],
-        notes,
         story,
     )
+
+
+def story_of(refused: list[untraced.Record], decided: Decisions) -> Story:
+    """A story of refused work, and of refused handling of which nobody decided that the reel was
+    taken off.
+    """
+    works, handling = [], []
+    for record in refused:
+        if untraced.is_work(record):
+            works.append(work_of(record))
+        elif record.id not in decided or decided[record.id].told["Became"] != TAKEN_OFF:
+            handling.append(record)
+    return Story(works, handling)
+
+
+def tell(story: Story, files: dict[str, Opener]) -> set[str]:
+    """Has the story read the files, in the order of their chain; the heads of books that they have
+    recorded.
+    """
+    recorded: set[str] = set()
+    for name, opened in files.items():
+        with opened() as database:
+            story.read(name, database)
+            recorded.update(heads.all_recorded_in(database))
+    for place, opened in enumerate(files.values()):
+        with opened() as database:
+            story.place(place, database)
+    return recorded
+
+
+def pieces_of(
+    story: Story,
+    works: list[untraced.Record],
+    differing: list[untraced.Record],
+    decided: Decisions,
+) -> list[DoubtfulPiece]:
+    """The pieces in doubt: by the story, by what machines name, and by what was decided."""
+    pieces = doubted.Doubted(story).pieces()
+    for record in differing:
+        is_out = record.id in decided and not untraced.is_shipped(decided[record.id])
+        pieces += () if is_out else doubted.contradicted(story, record)
+    for record in works:
+        is_kept = untraced.is_shipped(decided.get(record.id))
+        pieces += doubted.kept(story, record) if is_kept else ()
+    return pieces
 
 
 def held_open(database: sqlite3.Connection) -> Opener:

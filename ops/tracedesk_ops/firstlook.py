@@ -1,10 +1,11 @@
-"""A first look at an archive for tracedesk-recall, by SQL: what tracedesk-chain doesn't print."""
+"""What a recall asks, and a first look at an archive by SQL: what tracedesk-chain doesn't print."""
 from __future__ import annotations
 
+import json
 import pathlib
 import sqlite3
 import sys
-from typing import NamedTuple, Protocol
+from typing import NamedTuple
 
 from tracedesk_ops import catalogue, copies
 
@@ -18,31 +19,52 @@ LEFT = """SELECT reel, part, lot, remaining, iif(mount.reel IS NOT NULL, 'mounte
     coalesce(machine, ''), coalesce(slot, '') FROM reel LEFT JOIN mount USING (reel) WHERE {} AND remaining > 0 ORDER BY reel"""
 
 
-class Question(Protocol):
-    """What is asked: `kind` is lot, reel, reels or board."""
+class Line(NamedTuple):
+    """A line of the plant and its folder; `url` is empty if no desk runs."""
 
-    @property
-    def kind(self) -> str:
-        ...
+    name: str
+    url: str
+    folder: pathlib.Path
 
-    @property
-    def name(self) -> str:
-        ...
+
+class Question(NamedTuple):
+    """What is asked: `kind` is lot, board, reel, or reels, a set of them whose `name` is a title. A
+    lot may be asked for its pieces of one part.
+    """
+
+    kind: str
+    name: str
+    part: str = ""
+    reels: tuple[str, ...] = ()
+
+    def names(self) -> tuple[str, ...]:
+        """The names that are asked for; of a set of reels perhaps none."""
+        return self.reels if self.kind == "reels" else (self.name,)
+
+    def about(self) -> dict[str, str]:
+        """The question as a certificate has it."""
+        part = {"part": self.part} if self.part else {}
+        return {"kind": self.kind, "name": self.name, **part}
+
+    def words(self, listed: pathlib.Path) -> list[str]:
+        """The words of tracedesk-chain; a set of reels is in this file."""
+        if self.kind == "reels":
+            return ["reels", str(listed)]
+        return [self.kind, self.name, *(["--part", self.part] if self.part else [])]
 
     def sql(self) -> tuple[str, list[str]]:
-        """The condition on a row of the table of its kind, and its values."""
+        """The condition on a row of the table `reel`, and its values."""
+        if self.kind == "reels":
+            return "reel IN (SELECT value FROM json_each(?))", [json.dumps(self.reels)]
+        if self.part:
+            return "lot = ? AND part = ?", [self.name, self.part]
+        return f"{self.kind} = ?", [self.name]
 
-
-class Line(Protocol):
-    """The line whose archives are asked."""
-
-    @property
-    def name(self) -> str:
-        ...
-
-    @property
-    def folder(self) -> pathlib.Path:
-        ...
+    def is_of(self, reel: str, part: str, lot: str) -> bool:
+        """Whether such a reel is asked for."""
+        if self.kind == "lot":
+            return lot == self.name and self.part in ("", part)
+        return reel in self.names()
 
 
 class Piece(NamedTuple):
@@ -61,7 +83,7 @@ class Piece(NamedTuple):
     file: str
 
 
-class Reel(NamedTuple):
+class ReelLeft(NamedTuple):
     """What is left of a reel as of a minute, None being now; machine and slot may be empty."""
 
     reel: str
@@ -135,8 +157,8 @@ def with_minutes(database: sqlite3.Connection, pieces: list[Piece]) -> list[Piec
 
 def left_in(
     database: sqlite3.Connection, line: Line, question: Question, minute: int | None = None
-) -> list[Reel]:
+) -> list[ReelLeft]:
     """What is left of the lot or reel by the tables of a desk, as of a minute, none being now."""
     where, values = question.sql()
     left = [] if question.kind == "board" else copies.rows(database, LEFT.format(where), *values)
-    return [Reel._make((*row, line.name, minute)) for row in left]
+    return [ReelLeft._make((*row, line.name, minute)) for row in left]

@@ -56,7 +56,7 @@ class Tape(NamedTuple):
     end: Turn
 
 
-class Piece(NamedTuple):
+class DoubtfulPiece(NamedTuple):
     """A piece that may be of another reel."""
 
     board: str

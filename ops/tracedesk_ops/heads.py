@@ -23,7 +23,7 @@ RECORDED = """SELECT uid FROM accepted WHERE uid >= ? AND uid < ? AND source = ?
     AND command = 'ClockSet' ORDER BY number"""  # by the index of uid
 
 
-class NoAnswer(Exception):
+class NoHead(Exception):
     """Why a running desk took no head."""
 
 
@@ -78,7 +78,7 @@ def has_minute(port: int) -> bool:
 
 
 def give(port: int, uids: list[str]) -> None:
-    """Gives heads to the desk that runs on a port of this machine; a NoAnswer says why it has not
+    """Gives heads to the desk that runs on a port of this machine; a NoHead says why it has not
     taken them.
     """
     if not uids or not has_minute(port):
@@ -86,7 +86,7 @@ def give(port: int, uids: list[str]) -> None:
     for uid in uids:
         answer = said(port, message(uid))
         if answer.get("Answer") != "Accepted":
-            raise NoAnswer(f"the desk on port {port} answers {uid} with {json.dumps(answer)}")
+            raise NoHead(f"the desk on port {port} answers {uid} with {json.dumps(answer)}")
 
 
 def said(port: int, text: str) -> "dict[str, object]":
@@ -97,7 +97,7 @@ def said(port: int, text: str) -> "dict[str, object]":
             _, body, _ = desk.once("POST", "/messages", text.encode(), headers)
         answer = json.loads(body)
     except (OSError, ValueError, http.client.HTTPException) as fault:
-        raise NoAnswer(f"the desk on port {port} gives no answer: {fault}") from fault
+        raise NoHead(f"the desk on port {port} gives no answer: {fault}") from fault
     if not isinstance(answer, dict):
-        raise NoAnswer(f"the desk on port {port} gives no answer: {answer!r}")
+        raise NoHead(f"the desk on port {port} gives no answer: {answer!r}")
     return answer

@@ -41,7 +41,7 @@ def sealed_in(line: LineFolder, work: Path, port: int, audit: Audit) -> Sealed:
             copied_running(line.desk, port, copy, audit)
         else:
             copied_stopped(line.desk, copy, audit)
-    except (held.NoCopy, copies.InUse, heads.NoAnswer, plant.Fault) as fault:
+    except (held.NoCopy, copies.InUse, heads.NoHead, plant.Fault) as fault:
         raise NotSealed(f"{line.desk} was not sealed: {fault}") from fault
     made = put(line, copy)
     drop_found(line, made)

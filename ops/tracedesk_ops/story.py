@@ -1,5 +1,5 @@
 """What the files of a line say of its slots and reels, read as one story in the order of their
-chain, and the pieces that may be of another reel than the desk has it: doubtful.py has the rules.
+chain. doubted.py says by it which pieces may be of another reel than the desk has it.
 """
 from __future__ import annotations
 
@@ -7,24 +7,22 @@ import bisect
 import functools
 import re
 import sqlite3
-from collections.abc import Iterable, Iterator
+from collections.abc import Iterable
 
 from tracedesk_ops import untraced
 from tracedesk_ops.handling import (
     Count,
     Handling,
     Install,
-    Piece,
+    DoubtfulPiece,
     Placed,
     Refusal,
     Slot,
-    Steps,
     Tape,
     Turn,
     Work,
     is_overtaken,
     minute_of,
-    steps,
     tapes_of,
     work_of,
 )
@@ -53,15 +51,7 @@ HEADER = (
     "why",
     "file",
 )
-LATE, SHORT, LONG = (
-    "handled in another order than accepted",
-    "the reel may have ended before",
-    "the reel before it may have ended later",
-)
-AFTER, REFUSED = "after such an order, on the same tape", "a refused reel may be on the slot"
 DIFFERS = "the machine names another reel"
-KEPT = "worked though the desk refused it, and not scrapped"
-NO_PIECES = ("MaterialsScrapped", "WorkCompleted")  # reports that place none on a board
 TAKEN_OFF = "taken off"  # what became of a refused reel from which nothing was placed
 
 
@@ -303,7 +293,7 @@ class Story:
             found += [(slot, reel) for reel in dict.fromkeys([*tape, *since])]
         return found
 
-    def concerns(self, piece: Piece, kind: str, name: str) -> bool:
+    def concerns(self, piece: DoubtfulPiece, kind: str, name: str) -> bool:
         """Whether a recall of this lot, reel or board has to name a piece in doubt. It may be of
         any reel of its part: one that the desk refused may have been on the slot all the same."""
         if kind == "board":
@@ -347,115 +337,6 @@ class Story:
             )
             or "none that the desk knew"
         )
-
-    def pieces(self) -> list[Piece]:
-        """The pieces that may be of another reel, from the oldest on."""
-        took, late = self.moved()
-        lacking = steps((work.machine, work.first, work.pieces) for work in self.works)
-        moved, found = steps(took), []
-        begun = {
-            on: [(it.turn, it.own) for it in its if it.word != SPLICED]
-            for on, its in self.slots.items()
-        }
-
-        def until(counts: Steps, reel: str, minute: int) -> int:
-            """The sum up to a minute over the machines that had the reel."""
-            steps_of = (counts[on] for on in self.machines.get(reel, ()) if on in counts)
-            return sum(sums[bisect.bisect_right(minutes, minute)] for minutes, sums in steps_of)
-
-        following: dict[str, set[str]] = {}
-        before = self.spliced()
-        for reel, its in before.items():
-            for _, front in its:
-                following.setdefault(front, set()).add(reel)
-        for place, placed, left in self.tables:
-            turns: dict[str, list[Turn]] = {}
-            after = dict(left)
-            for piece in placed:
-                turns.setdefault(piece[5], []).append((place, piece[0]))
-            for number, board, designator, machine, slot, reel, own, refused, ids in reversed(
-                placed
-            ):
-                late_here, whys = self.late.get((place, number), {}), []
-                others = set(late_here.get(slot, ())) - {reel}
-                at = (
-                    bisect.bisect_right(
-                        begun.get((machine, slot), []), (place, number), key=lambda it: it[0]
-                    )
-                    - 1
-                )
-                tape = begun[machine, slot][at] if at >= 0 else ((-1, 0), -1)
-                if slot in late_here and (others or not late_here[slot]):
-                    whys.append(LATE)
-                elif (
-                    before_it := bisect.bisect_right(late.get((machine, slot), []), (place, number))
-                ) and late[machine, slot][before_it - 1] > tape[0]:
-                    whys.append(AFTER)
-                if after.get(reel, 0) < until(lacking, reel, own) + until(moved, reel, own):
-                    others |= following.get(reel, set())
-                    whys.append(SHORT)
-                if ids:
-                    others |= refused
-                    whys.append(f"{REFUSED} ({', '.join(sorted(ids))})")
-                at = bisect.bisect_left(before.get(reel, []), ((place, number), "")) - 1
-                if at >= 0 and bisect.bisect_left(
-                    turns[reel], (place, number)
-                ) - bisect.bisect_left(turns[reel], before[reel][at][0]) < until(moved, reel, own):
-                    others.add(before[reel][at][1])
-                    whys.append(LONG)
-                after[reel] = after.get(reel, 0) + 1
-                if whys:
-                    others |= self.refused_on(machine, slot, tape[1], own) - {reel}
-                    names = tuple(sorted(others))
-                    lots = tuple(sorted({self.lots.get(it, "") for it in names}))
-                    found.append(
-                        Piece(
-                            board,
-                            designator,
-                            machine,
-                            slot,
-                            own,
-                            reel,
-                            self.lots.get(reel, ""),
-                            names,
-                            lots,
-                            "; ".join(whys),
-                            self.names[place],
-                        )
-                    )
-        return sorted(found, key=lambda it: (it.minute, it.board, it.designator))
-
-    def contradicted(self, record: untraced.Record) -> Iterator[Piece]:
-        """The pieces of which a machine names another reel than the desk. The lot of one that the
-        desk doesn't know is empty: that reel was on the machine, and may be of a lot that the desk
-        doesn't know either."""
-        told, minute = record.told, minute_of(record.told["At"]) or 0
-        desk, machine, why = told["DeskReel"], told["MachineReel"], DIFFERS
-        if machine not in self.lots:
-            why += ", which the desk doesn't know"
-            self.machines.setdefault(machine, set()).add(told["Machine"])
-        lots = self.lots.get(desk, ""), self.lots.get(machine, "")
-        for name in map(str, told["Designators"]):
-            at = told["Board"], name, told["Machine"], "", minute, desk, lots[0]
-            yield Piece(*at, (machine,), lots[1:], f"{why} ({record.id[:8]})", "")
-
-    def kept(self, record: untraced.Record) -> Iterator[Piece]:
-        """A board that was worked though the desk refused the report, and is no scrap: a row for
-        each reel that was on the machine, or refused on its tape, since its pieces may be of each.
-        Where none is known the reel is empty: then it may be any.
-        """
-        work, (machine, board) = work_of(record), untraced.said(record)[3:5]
-        if untraced.word_of(record) in NO_PIECES:
-            return
-        reels = self.reels_between(work.machine, work.first, work.last)
-        for on, slot in self.refusals:
-            loads = (it for it in self.slots.get((on, slot), ()) if it.word != SPLICED)
-            since = max((it.own for it in loads if it.effective < work.first), default=-1)
-            found = self.refused_on(on, slot, since, work.last) if on == work.machine else ()
-            reels += [(slot, reel) for reel in sorted(found)]
-        for slot, reel in dict.fromkeys(reels or [("", "")]):
-            at = board, "", machine, slot, work.first, reel, self.lots.get(reel, "")
-            yield Piece(*at, (), (), f"{KEPT} ({record.id[:8]})", "")
 
     def moved(self) -> tuple[list[Count], dict[Slot, list[Turn]]]:
         """The machines on which pieces were taken off a reel that may be another one, when, and how

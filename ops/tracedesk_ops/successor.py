@@ -38,7 +38,7 @@ class Wanted:
         return self != Wanted()
 
 
-class Row(NamedTuple):
+class StoredRow(NamedTuple):
     """A command as a desk stores it, with its answer, but for its number."""
 
     uid: str
@@ -49,17 +49,17 @@ class Row(NamedTuple):
     answer: dict[str, Any]
 
 
-def rows_after(file: Path, number: int) -> list[Row]:
+def rows_after(file: Path, number: int) -> list[StoredRow]:
     """What a file has behind a command."""
     with sealed.opened(file) as database:
         found = copies.rows(database, TAIL, number)
-    rows = [Row._make((*row[:5], json.loads(row[5]))) for row in found]
+    rows = [StoredRow._make((*row[:5], json.loads(row[5]))) for row in found]
     for row in rows:
         row.answer.pop("Number", None)
     return rows
 
 
-def message(row: Row) -> str:
+def message(row: StoredRow) -> str:
     try:
         return stored.message(row.uid, row.source, row.own, row.command)
     except stored.NotACommand as why:
@@ -78,7 +78,7 @@ class Successor:
 
     def begin(self, file: Sealed) -> None:
         """Makes the new desk, and says what it doesn't know and that both are alike."""
-        carried = carry.Archive(file.path, sealed.opened)
+        carried = carry.DeskTables(file.path, sealed.opened)
         at = self.wanted.at
         is_earlier = at is not None and at < carried.minute
         carrier = self.made(carried, file, None if is_earlier else at)
@@ -88,7 +88,7 @@ class Successor:
         for note in (*carrier.notes(), f"tracedesk-chain says of both desks: {alike}"):
             plant.tell(note)
 
-    def made(self, carried: carry.Archive, file: Sealed, at: int | None) -> carry.Carrier:
+    def made(self, carried: carry.DeskTables, file: Sealed, at: int | None) -> carry.Carrier:
         """Makes the new desk, each of whose commands was Accepted; who says what it doesn't
         know.
         """
@@ -134,7 +134,7 @@ class Successor:
             words += ["--machine", setup.machine, "--file", given]
             yield self.program.run("import-setup", "--db", self.path, *words, **how).stdout or "{}"
 
-    def compared(self, carried: carry.Archive, file: Sealed) -> str:
+    def compared(self, carried: carry.DeskTables, file: Sealed) -> str:
         """What tracedesk-chain says of both desks, which has to be that they are alike. It opens
         what it compares for writing, so it gets a copy of the sealed file; and that has taken the
         commands for which the options stand.
@@ -153,7 +153,7 @@ class Successor:
         plant.without_log(self.path)
         return done.stdout.strip()
 
-    def said_of_options(self, carried: carry.Archive, digits: str) -> list[object]:
+    def said_of_options(self, carried: carry.DeskTables, digits: str) -> list[object]:
         messages = carry.Messages(f"asked-{digits}", "asked")
         for machine, board in carried.in_work:
             messages.say(carried.minute, "WorkCompleted", Machine=machine, Board=board)

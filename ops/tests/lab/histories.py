@@ -18,7 +18,7 @@ from hypothesis.stateful import RuleBasedStateMachine, initialize, invariant, pr
 from lab import files, folders
 from lab.folders import CALLS, audit
 from lab.killed import killed_at
-from tracedesk_ops import change, lineage, rollover, sealed, sealing
+from tracedesk_ops import around, change, lineage, rollover, sealed, sealing
 from tracedesk_ops.line import LineFolder
 
 Path = pathlib.Path
@@ -360,6 +360,25 @@ class Histories(RuleBasedStateMachine):
         there = [has for folder in folders for has in self.of_folder(folder).values()]
         lacked = self.said(there) - wanted
         assert sum(its.commands for its in found.lacked) == len(lacked)
+
+    @invariant()
+    def is_recalled_exactly_or_says_what_is_missing(self) -> None:
+        """A recall asks the files behind the desk, and says what its history lacks."""
+        if not hasattr(self, "hosts"):
+            return
+        found = around.survey(self.line, "L1")
+        if self.damaged:
+            assert found.faults, "a damaged file is not named"
+            return
+        own = self.history(self.hosts[0].has)
+        there = self.of_folder(self.line.sealed)
+        kept = [*there.values(), *self.of_folder(self.line.lost).values()]
+        behind = [lists for one in (*kept, own[-1]) for lists in self.history(one)[:-1]]
+        is_whole = all(lists in there.values() for lists in behind)
+        lacked = self.said(kept) - self.said(own)
+        assert bool(found.faults) == (not is_whole or bool(lacked)), f"it says {found.faults}"
+        if is_whole:
+            assert [self.known[Path(row.file).stem] for row in found.archives] == own[:-1]
 
     @staticmethod
     def said(those: list[Lists]) -> set[Command]:

@@ -13,7 +13,8 @@ from lab.line import table
 from lab.tools import Ended, Word, run, run_tool
 from lab.world import World
 from tracedesk_ops import catalogue, chains
-from tracedesk_ops.recalls.desk import Desk, Line, Question
+from tracedesk_ops.firstlook import Line, Question
+from tracedesk_ops.recalls.desk import Desk
 from tracedesk_ops.recalls.recall import Recall
 from tracedesk_ops.recalls.tables import tables_of
 

@@ -12,8 +12,8 @@ from unittest import mock
 from lab.tools import Ended, run_tool
 from tracedesk import desk as desks
 from tracedesk_ops import catalogue, chains, doubtful, firstlook, untraced
-from tracedesk_ops.firstlook import Reel
-from tracedesk_ops.recalls.desk import Desk, Line, Question
+from tracedesk_ops.firstlook import Line, Question, ReelLeft
+from tracedesk_ops.recalls.desk import Desk
 from tracedesk_ops.recalls.recall import Recall
 from truth.run import ROUNDS, SETTLE, SLOTS, Run
 from truth.world import BEGIN, Clock, Killed, Killer, Place
@@ -27,7 +27,7 @@ COMMANDS_OF = """SELECT number, own, effective, command FROM accepted
 class Asking(Desk):
     """A running desk, which isn't asked what is left."""
 
-    def stock(self, *_: object) -> Iterator[Reel]:
+    def stock(self, *_: object) -> Iterator[ReelLeft]:
         return iter(())
 
 

@@ -65,7 +65,7 @@ class NotMoved(Exception):
     """Why a reel can't be moved so; the text begins with a name, and says what to do."""
 
 
-def desk(path: pathlib.Path, program: str) -> carry.Archive:
+def desk(path: pathlib.Path, program: str) -> carry.DeskTables:
     """What a desk's file says, or the newest sealed file of a line's folder."""
     if path.is_dir():
         found = lineage.of(LineFolder(path))
@@ -83,7 +83,7 @@ def desk(path: pathlib.Path, program: str) -> carry.Archive:
         ) from None
 
 
-def want_at_rest(old: carry.Archive, name: str) -> None:
+def want_at_rest(old: carry.DeskTables, name: str) -> None:
     """Stops where the old desk has no such reel with pieces left and on no slot."""
     if name in old.spent:
         raise NotMoved(
@@ -105,7 +105,7 @@ def want_at_rest(old: carry.Archive, name: str) -> None:
             )
 
 
-def want_new(new: carry.Archive, name: str) -> None:
+def want_new(new: carry.DeskTables, name: str) -> None:
     """Stops where the new desk has had a reel of this name."""
     if name in new.reels or name in new.spent:
         left = (
@@ -119,7 +119,7 @@ def want_new(new: carry.Archive, name: str) -> None:
         )
 
 
-def end_of(asked: argparse.Namespace, old: carry.Archive, new: carry.Archive) -> int:
+def end_of(asked: argparse.Namespace, old: carry.DeskTables, new: carry.DeskTables) -> int:
     """The minute at which the move is done: the later one of the desks' last minutes, or that of
     --at.
     """
@@ -133,7 +133,7 @@ def end_of(asked: argparse.Namespace, old: carry.Archive, new: carry.Archive) ->
     return last if asked.at is None else int(asked.at)
 
 
-def want_time(new: carry.Archive, reel: carry.Reel, end: int) -> None:
+def want_time(new: carry.DeskTables, reel: carry.ReelRow, end: int) -> None:
     """Stops where the reel would have to begin at a minute that the new desk has passed."""
     exposure = reel.exposure(end)
     if new.minute is None or end - exposure >= new.minute:
@@ -157,8 +157,11 @@ def want_time(new: carry.Archive, reel: carry.Reel, end: int) -> None:
 
 
 def arrival(
-    asked: argparse.Namespace, old: carry.Archive, new: carry.Archive, messages: carry.Messages
-) -> carry.Reel:
+    asked: argparse.Namespace,
+    old: carry.DeskTables,
+    new: carry.DeskTables,
+    messages: carry.Messages,
+) -> carry.ReelRow:
     """Says what the new desk is told, and returns the reel as it is then."""
     called, end = asked.called or asked.reel, end_of(asked, old, new)
     alone = old.of_one_reel(asked.reel, called, new.parts, end)
@@ -174,7 +177,7 @@ def arrival(
     return reel
 
 
-def notes(reel: carry.Reel, new: carry.Archive, end: int) -> Iterator[str]:
+def notes(reel: carry.ReelRow, new: carry.DeskTables, end: int) -> Iterator[str]:
     """What to look at once the new desk was told."""
     if new.minute is not None and new.minute < end:
         yield (
@@ -194,7 +197,7 @@ def notes(reel: carry.Reel, new: carry.Archive, end: int) -> Iterator[str]:
         )
 
 
-def prefix(asked: argparse.Namespace, old: carry.Archive) -> str:
+def prefix(asked: argparse.Namespace, old: carry.DeskTables) -> str:
     called = asked.called or asked.reel
     if len(called) > LONGEST_IN_ID:
         called = hashlib.sha256(called.encode()).hexdigest()[:LONGEST_IN_ID]

@@ -88,7 +88,8 @@ from tracedesk.desk import checked_url
 from tracedesk_ops import carry, catalogue, chains, files, options, places, plant, reader_of
 from tracedesk_ops.recalls import customers, sets, signing
 from tracedesk_ops.recalls.certificate import bytes_of, programs
-from tracedesk_ops.recalls.desk import Desk, Line, Question
+from tracedesk_ops.firstlook import Line, Question
+from tracedesk_ops.recalls.desk import Desk
 from tracedesk_ops.recalls.evidence import (
     LISTED,
     evidence,

@@ -145,7 +145,7 @@ def read_if_there(path: pathlib.Path) -> Any:
     return json.loads(path.read_bytes()) if is_there(path) else None
 
 
-class Desk(asking.Once):
+class WatchedDesk(asking.Once):
     """The running desk, which has little time for each answer, and for all of them."""
 
     def __init__(self, port: int, seconds: float) -> None:
@@ -161,7 +161,7 @@ class Watch:
     """The sources: each yields its samples. Those before a fault stay."""
 
     def __init__(self, asked: argparse.Namespace) -> None:
-        self.asked, self.desk = asked, Desk(asked.port, asked.timeout)
+        self.asked, self.desk = asked, WatchedDesk(asked.port, asked.timeout)
         self.is_up = False
         self.sealed = asked.db.with_name(model.SEALED)
 

@@ -11,7 +11,15 @@ from werkzeug.exceptions import HTTPException
 
 from tracedesk_ops import carry
 from tracedesk_ops.recallpage import pages, papers, view
-from tracedesk_ops.recallpage.jobs import KINDS, MOST_BYTES, MOST_SHOWN, Asked, Full, Job, Queue
+from tracedesk_ops.recallpage.jobs import (
+    KINDS,
+    MOST_BYTES,
+    MOST_SHOWN,
+    JobQuestion,
+    Full,
+    Job,
+    Queue,
+)
 from tracedesk_ops.recalls import sets
 from tracedesk_ops.recalls.wording import readable
 
@@ -47,36 +55,36 @@ POLICY = "default-src 'none'; " + "; ".join(
 PROGRESS = re.compile(r"(.*\d+ of \d+ files were read.*)")
 
 
-class NotTaken(Exception):
+class NoQuestion(Exception):
     """Why a question isn't taken."""
 
 
-def asked_in(form: "dict[str, str]", reader: str, has_list: bool) -> Asked:
-    """The question in a form; a NotTaken says what is wrong with it."""
+def asked_in(form: "dict[str, str]", reader: str, has_list: bool) -> JobQuestion:
+    """The question in a form; a NoQuestion says what is wrong with it."""
     kind, part = form.get("kind", ""), form.get("part", "").strip()
     names = tuple(name.strip() for name in form.get("names", "").split(",") if name.strip())
     if kind not in KINDS:
-        raise NotTaken("Say what is recalled.")
+        raise NoQuestion("Say what is recalled.")
     if not names or kind == "board" and len(names) > 1 or len(names) > MOST_NAMES:
-        raise NotTaken("Give one name." if kind == "board" else f"Give 1 to {MOST_NAMES} names.")
+        raise NoQuestion("Give one name." if kind == "board" else f"Give 1 to {MOST_NAMES} names.")
     try:
         for text in (*names, *([part] if part else [])):
             carry.identifier(text)
         if kind == "where":
             sets.terms_of(names)
     except (argparse.ArgumentTypeError, ValueError) as fault:
-        raise NotTaken(f"{str(fault)[:1].upper()}{str(fault)[1:]}.") from fault
+        raise NoQuestion(f"{str(fault)[:1].upper()}{str(fault)[1:]}.") from fault
     if begun := [name for name in (*names, part) if name.startswith("-")]:
-        raise NotTaken(f"{begun[0]} begins with -: ask for it by tracedesk-recall.")
+        raise NoQuestion(f"{begun[0]} begins with -: ask for it by tracedesk-recall.")
     if part and kind == "where":
         names, part = (*names, f"part={part}"), ""
     if part and kind != "lot":
-        raise NotTaken("A part may be named with a lot or an attribute.")
+        raise NoQuestion("A part may be named with a lot or an attribute.")
     now = datetime.datetime.now(datetime.timezone.utc)
-    return Asked(kind, names, part, reader, f"{now:%Y-%m-%d %H:%M} UTC", has_list)
+    return JobQuestion(kind, names, part, reader, f"{now:%Y-%m-%d %H:%M} UTC", has_list)
 
 
-def title_of(asked: Asked) -> str:
+def title_of(asked: JobQuestion) -> str:
     part = f" of part {asked.part}" if asked.part else ""
     if asked.kind == "where":
         return str(sets.terms_of(asked.names))
@@ -131,7 +139,7 @@ def make(folder: pathlib.Path) -> flask.Flask:
         shipped = upload.read() if upload else b""
         try:
             job = queue.add(asked_in(values, who, bool(shipped)), shipped)
-        except NotTaken as fault:
+        except NoQuestion as fault:
             return form(str(fault), 400, values)
         except Full as fault:
             return form(str(fault), 429, values)

@@ -45,7 +45,7 @@ class Full(Exception):
 
 
 @dataclasses.dataclass(frozen=True)
-class Asked:
+class JobQuestion:
     """What a reader asks. `names` are lots, reels or a board, or attributes as `date_code=2614`."""
 
     kind: str
@@ -60,11 +60,11 @@ class Asked:
         part = [f"--part={self.part}"] if self.part else []
         return [self.kind, *part, *options, "--", *self.names]
 
-    def same(self, other: "Asked") -> bool:
+    def same(self, other: "JobQuestion") -> bool:
         return self.words() == other.words() and not (self.has_list or other.has_list)
 
 
-def asked_in(text: bytes) -> Asked:
+def asked_in(text: bytes) -> JobQuestion:
     """The question of a file; a ValueError if it is none."""
     told: Any = json.loads(records.shallow(text))
     names = told["names"] if isinstance(told, dict) and set(told) == FIELDS else None
@@ -81,10 +81,10 @@ def asked_in(text: bytes) -> Asked:
     if told["kind"] == "where":
         sets.terms_of(names)
     its: dict[str, Any] = {**told, "names": tuple(names), "has_list": bool(told["has_list"])}
-    return Asked(**its)
+    return JobQuestion(**its)
 
 
-FIELDS = {field.name for field in dataclasses.fields(Asked)}
+FIELDS = {field.name for field in dataclasses.fields(JobQuestion)}
 
 
 @dataclasses.dataclass(frozen=True)
@@ -98,7 +98,7 @@ class Job:
         return self.folder.name
 
     @property
-    def asked(self) -> Asked:
+    def asked(self) -> JobQuestion:
         """The question; an OSError or a ValueError if there is none that can be read."""
         return asked_in(files.read_plain(self.folder / ASKED, LONGEST))
 
@@ -204,7 +204,7 @@ class Queue:
     def waiting(self) -> list[Job]:
         return [job for job in self.all() if not (job.folder / ENDED).exists()]
 
-    def questions(self, jobs: Iterable[Job]) -> Iterator[tuple[Job, Asked]]:
+    def questions(self, jobs: Iterable[Job]) -> Iterator[tuple[Job, JobQuestion]]:
         """These recalls with their questions, without those whose question can't be read."""
         for job in jobs:
             with contextlib.suppress(OSError, ValueError):
@@ -219,7 +219,7 @@ class Queue:
         """How many are before it."""
         return sum(1 for other in self.waiting() if other.name < job.name)
 
-    def add(self, asked: Asked, shipped: bytes = b"") -> Job:
+    def add(self, asked: JobQuestion, shipped: bytes = b"") -> Job:
         """Puts a recall into the queue, whole or not at all. If the same one waits already, that is
         taken in its place.
         """

@@ -6,7 +6,7 @@ from collections.abc import Mapping
 
 import jinja2
 
-from tracedesk_ops.recallpage.view import Answer
+from tracedesk_ops.recallpage.view import ShownAnswer
 
 COLOURS = {
     "ink": "#1b2430",
@@ -162,7 +162,7 @@ def page(
     return made.render(**values, title=title, again=again, style=style)
 
 
-def paper(answer: Answer, most: int) -> str:
+def paper(answer: ShownAnswer, most: int) -> str:
     """The page to print, with so many rows of a table."""
     body = f"<h1>Recall of {{{{ answer.title }}}}</h1>{ANSWER}{TABLES}"
     footer = "".join(letter for letter in answer.title if letter.isalnum() or letter in " -_.,")

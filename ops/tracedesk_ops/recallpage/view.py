@@ -83,7 +83,7 @@ class Table:
 
 
 @dataclasses.dataclass(frozen=True)
-class Answer:
+class ShownAnswer:
     """An answer: whether it is complete in a sentence, why it isn't, and the tables."""
 
     title: str
@@ -176,7 +176,7 @@ def reasons_of(told: dict[str, Any]) -> list[str]:
     return found
 
 
-def answer_of(evidence: pathlib.Path) -> Answer:
+def answer_of(evidence: pathlib.Path) -> ShownAnswer:
     """What a page says of a recall with this evidence."""
     told = json.loads((evidence / FILE_NAME).read_text(encoding="utf-8"))
     title = title_of(told["question"])
@@ -188,7 +188,7 @@ def answer_of(evidence: pathlib.Path) -> Answer:
     facts = [("Asked", spelled(told["asked_at"])), ("Lines", lines)]
     facts.append(("Programs", ", ".join(its["version"] for its in told["programs"][:2])))
     facts.append(("Signed by", told["signed_by"]))
-    return Answer(
+    return ShownAnswer(
         title=title,
         is_complete=told["answer"]["is_complete"],
         headline=headline_of(told, title),
@@ -200,7 +200,7 @@ def answer_of(evidence: pathlib.Path) -> Answer:
     )
 
 
-def brief(answer: Answer, most: int) -> Answer:
+def brief(answer: ShownAnswer, most: int) -> ShownAnswer:
     """The same answer with so many letters of each cell and note at most, and in each long word
     places where a line may end.
     """

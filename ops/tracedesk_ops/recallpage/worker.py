@@ -21,7 +21,7 @@ from tracedesk_ops.recallpage.jobs import (
     MOST_BYTES,
     SAID,
     SHIPPED,
-    Asked,
+    JobQuestion,
     Job,
     Place,
     Queue,
@@ -116,7 +116,9 @@ class Worker:
         (room / SHIPPED).write_bytes(text)
         return [f"--shipped={room / SHIPPED}"]
 
-    def recalled(self, asked: Asked, room: pathlib.Path, shipped: list[str], said: BinaryIO) -> int:
+    def recalled(
+        self, asked: JobQuestion, room: pathlib.Path, shipped: list[str], said: BinaryIO
+    ) -> int:
         """The status of tracedesk-recall, or STOPPED."""
         options = [f"--evidence={room / 'evidence'}", *self.more, *shipped]
         running = subprocess.Popen(

@@ -14,7 +14,7 @@ from collections.abc import Iterable, Iterator
 from typing import Any, NamedTuple
 
 from tracedesk_ops import __version__, files, plant
-from tracedesk_ops.recalls.desk import Line
+from tracedesk_ops.firstlook import Line
 from tracedesk_ops.recalls.recall import Recall
 from tracedesk_ops.recalls.tables import Table
 
@@ -30,7 +30,7 @@ LIMITS = (
 )
 
 
-class Program(NamedTuple):
+class ProgramFile(NamedTuple):
     """A program that a recall used."""
 
     name: str
@@ -38,15 +38,15 @@ class Program(NamedTuple):
     sha256: str
 
 
-def program_of(name: str, path: str | None) -> Program:
+def program_of(name: str, path: str | None) -> ProgramFile:
     """The version and checksum of a program; both say so if it is not there."""
     at = shutil.which(path) if path else None
     how: dict[str, Any] = {"capture_output": True, "check": True, **plant.TEXT}
     try:
         version = subprocess.run([at or name, "--version"], **how).stdout.strip()
-        return Program(name, version, files.sha256_of(pathlib.Path(at or name)))
+        return ProgramFile(name, version, files.sha256_of(pathlib.Path(at or name)))
     except (OSError, subprocess.CalledProcessError):
-        return Program(name, f"no version: {path or name} is not here", "")
+        return ProgramFile(name, f"no version: {path or name} is not here", "")
 
 
 def checksum_of_tools() -> str:
@@ -55,18 +55,18 @@ def checksum_of_tools() -> str:
     return hashlib.sha256(b"".join(module.read_bytes() for module in modules)).hexdigest()
 
 
-def programs(program: str) -> list[Program]:
+def programs(program: str) -> list[ProgramFile]:
     """The programs of a recall by this `tracedesk`."""
     return [
         program_of("tracedesk", program),
         program_of("tracedesk-chain", plant.chain_of(program)),
-        Program("tracedesk-recall", __version__, checksum_of_tools()),
-        Program("SQLite", sqlite3.sqlite_version, ""),
+        ProgramFile("tracedesk-recall", __version__, checksum_of_tools()),
+        ProgramFile("SQLite", sqlite3.sqlite_version, ""),
     ]
 
 
 def certificate(
-    recall: Recall, tables: dict[str, Table], used: Iterable[Program], signed_by: str
+    recall: Recall, tables: dict[str, Table], used: Iterable[ProgramFile], signed_by: str
 ) -> dict[str, Any]:
     """The certificate of a recall, as JSON has it."""
     status = recall.status()

@@ -8,7 +8,7 @@ from collections.abc import Iterable
 
 from tracedesk_ops import catalogue, copies, plant
 from tracedesk_ops.recalls import certificate, evidence, tables, wording
-from tracedesk_ops.recalls.certificate import Program, bytes_of
+from tracedesk_ops.recalls.certificate import ProgramFile, bytes_of
 from tracedesk_ops.recalls.recall import Recall
 from tracedesk_ops.recalls.tables import Shipped, Table
 
@@ -86,7 +86,7 @@ def sentence(serials: Table) -> str:
 
 
 def contents(
-    recall: Recall, its: dict[str, Table], used: Iterable[Program], signed_by: str
+    recall: Recall, its: dict[str, Table], used: Iterable[ProgramFile], signed_by: str
 ) -> evidence.Contents:
     """The files of a customer's evidence. What others have in the files of the lines is in none of
     them: the certificate has the checksums of those alone.

@@ -1,67 +1,16 @@
-"""The lines that a recall asks, and how it asks a running desk."""
+"""How a recall asks a running desk."""
 from __future__ import annotations
 
 import base64
-import json
 import netrc
-import pathlib
 import ssl
-from typing import NamedTuple
 
 from tracedesk import words as reports
 from tracedesk_ops import asking, catalogue, model, plant
-from tracedesk_ops.firstlook import Piece, Told
+from tracedesk_ops.firstlook import Line, Piece, Question, Told
 
 RUNNING = catalogue.RUNNING
 SECONDS_FOR_A_REPORT = 120  # as the proxy waits; a trace of very many pieces takes its time
-
-
-class Line(NamedTuple):
-    """A line of the plant and its folder; `url` is empty if no desk runs."""
-
-    name: str
-    url: str
-    folder: pathlib.Path
-
-
-class Question(NamedTuple):
-    """What is asked: `kind` is lot, board, reel, or reels, a set of them whose `name` is a title. A
-    lot may be asked for its pieces of one part.
-    """
-
-    kind: str
-    name: str
-    part: str = ""
-    reels: tuple[str, ...] = ()
-
-    def names(self) -> tuple[str, ...]:
-        """The names that are asked for; of a set of reels perhaps none."""
-        return self.reels if self.kind == "reels" else (self.name,)
-
-    def about(self) -> dict[str, str]:
-        """The question as a certificate has it."""
-        part = {"part": self.part} if self.part else {}
-        return {"kind": self.kind, "name": self.name, **part}
-
-    def words(self, listed: pathlib.Path) -> list[str]:
-        """The words of tracedesk-chain; a set of reels is in this file."""
-        if self.kind == "reels":
-            return ["reels", str(listed)]
-        return [self.kind, self.name, *(["--part", self.part] if self.part else [])]
-
-    def sql(self) -> tuple[str, list[str]]:
-        """The condition on a row of the table `reel`, and its values."""
-        if self.kind == "reels":
-            return "reel IN (SELECT value FROM json_each(?))", [json.dumps(self.reels)]
-        if self.part:
-            return "lot = ? AND part = ?", [self.name, self.part]
-        return f"{self.kind} = ?", [self.name]
-
-    def is_of(self, reel: str, part: str, lot: str) -> bool:
-        """Whether such a reel is asked for."""
-        if self.kind == "lot":
-            return lot == self.name and self.part in ("", part)
-        return reel in self.names()
 
 
 class Desk(asking.Once):

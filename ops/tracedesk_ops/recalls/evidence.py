@@ -12,8 +12,8 @@ from collections.abc import Iterable, Iterator
 
 from tracedesk_ops import catalogue, files, plant
 from tracedesk_ops.recalls import certificate, signing
-from tracedesk_ops.recalls.certificate import Program, bytes_of
-from tracedesk_ops.recalls.desk import Question
+from tracedesk_ops.recalls.certificate import ProgramFile, bytes_of
+from tracedesk_ops.firstlook import Question
 from tracedesk_ops.recalls.recall import Recall
 from tracedesk_ops.recalls.signing import SUMS
 from tracedesk_ops.recalls.tables import Table
@@ -84,7 +84,7 @@ def evidence(
     tables: dict[str, Table],
     shipped: pathlib.Path | None,
     paper: str,
-    used: Iterable[Program],
+    used: Iterable[ProgramFile],
     signed_by: str,
 ) -> Contents:
     """The files of the evidence: their names and contents."""

@@ -22,9 +22,9 @@ from tracedesk_ops import (
     story,
     untraced,
 )
-from tracedesk_ops.firstlook import Piece, Reel, Told
+from tracedesk_ops.firstlook import Line, Piece, Question, ReelLeft, Told
 from tracedesk_ops.line import LineFolder
-from tracedesk_ops.recalls.desk import RUNNING, Desk, Line, Question
+from tracedesk_ops.recalls.desk import RUNNING, Desk
 
 
 class About(NamedTuple):
@@ -73,7 +73,7 @@ class Recall:
         self.minute = datetime.datetime.now(datetime.timezone.utc)
         self.known = False
         self.pieces: list[Piece] = []
-        self.reels: list[Reel] = []
+        self.reels: list[ReelLeft] = []
         self.asked: list[Asked] = []
         self.faults: list[str] = []
         self.breaks: list[str] = []
@@ -231,7 +231,7 @@ class Recall:
         """Asks the running desk of a line, and what is left of the lot or reel; without it that is
         as the newest archive says.
         """
-        held: list[Reel] = []
+        held: list[ReelLeft] = []
         try:
             for it in archives[-1:]:
                 with catalogue.opened(catalogue.path_of(line.folder, it)) as database:
@@ -241,7 +241,7 @@ class Recall:
         left = self.ask_desk(line) if line.url else None
         self.reels += held if left is None else left
 
-    def ask_desk(self, line: Line) -> list[Reel] | None:
+    def ask_desk(self, line: Line) -> list[ReelLeft] | None:
         """Asks a running desk; what is left of the reels by its file, none if that is not at hand."""
         about = About(line.name, RUNNING)
         desk = self.desks.setdefault(line.name, self.desk_of(line))
@@ -252,7 +252,7 @@ class Recall:
         except plant.Fault as fault:
             self.miss(about, fault)
             return None
-        left: list[Reel] | None = None
+        left: list[ReelLeft] | None = None
         try:
             if its := self.by_its_file(line, desk, newest, told):
                 told, left = its
@@ -270,7 +270,7 @@ class Recall:
 
     def by_its_file(
         self, line: Line, desk: Desk, newest: catalogue.Archive | None, told: Told
-    ) -> tuple[Told, list[Reel]] | None:
+    ) -> tuple[Told, list[ReelLeft]] | None:
         """What a running desk told, with the minutes of the pieces, and what is left of the reels,
         by its file; None if that is not at hand.
         """
@@ -289,7 +289,6 @@ class Recall:
         name, has = line.name, functools.partial(self.has, line) if line.url else None
         its = doubtful.look(line.folder, self.own(line), bool(line.url), has)
         self.faults += its.faults
-        self.notes += its.notes
         for it, by, reels in its.works:
             said = untraced.said(it)[2:9]
             self.untraced.append([name, *said, it.id, reels, *untraced.outcome(by)])
@@ -398,7 +397,7 @@ class Concern:
         self.parts = {of.parts[reel] for reel in self.reels - unknown}
         self.machines = {it for reel in unknown for it in of.machines.get(reel, ())}
 
-    def __contains__(self, piece: handling.Piece) -> bool:
+    def __contains__(self, piece: handling.DoubtfulPiece) -> bool:
         if not self.is_set:
             return self.story.concerns(piece, self.question.kind, self.question.name)
         if self.reels & {piece.reel, *piece.other_reels} or not piece.reel:

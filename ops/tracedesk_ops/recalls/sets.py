@@ -13,7 +13,7 @@ from typing import NamedTuple
 
 from tracedesk_ops import around, attributes, catalogue, copies, doubtful, heads, sealed, stored
 from tracedesk_ops.line import LineFolder
-from tracedesk_ops.recalls.desk import Line, Question
+from tracedesk_ops.firstlook import Line, Question
 
 REELS = "SELECT reel, part, lot FROM reel"
 MOVES = "SELECT uid, command FROM accepted WHERE uid >= 'move-' AND uid < 'move.'"
@@ -125,7 +125,7 @@ class Known:
                     yield f"the reel {reel} {way} a line that is not asked: name that line too"
 
 
-class Asked(NamedTuple):
+class Meant(NamedTuple):
     """The question that some words ask, why its set of reels may not be whole, and what a reader
     has to know. `known` is what the lines know of reels, as far as the question wants it.
     """
@@ -157,28 +157,28 @@ def title(kind: str, names: Sequence[str], part: str) -> str:
     return f"the {kind}s {', '.join(names)}{of_part}"
 
 
-def question_of(kind: str, names: Sequence[str], part: str, lines: Sequence[Line]) -> Asked:
+def question_of(kind: str, names: Sequence[str], part: str, lines: Sequence[Line]) -> Meant:
     """The question that these words ask."""
     if kind == "board" or kind == "lot" and len(names) == 1:
-        return Asked(Question(kind, names[0], part), [], [])
+        return Meant(Question(kind, names[0], part), [], [])
     known = Known(lines)
     if kind == "reel":
         reels = known.followed(names)
         more = [name for name in reels if name not in names]
         notes = [f"followed under other names too: {', '.join(more)}"] if more else []
         its = Question("reels", title(kind, reels, ""), "", tuple(reels))
-        return Asked(its if len(reels) > 1 else Question(kind, names[0]), [], notes, known)
+        return Meant(its if len(reels) > 1 else Question(kind, names[0]), [], notes, known)
     if kind == "lot":
         cards = [card for those in known.cards.values() for card in those]
         of_lots = {its.reel for its in cards if its.lot in names and part in ("", its.part)}
         its = Question("reels", title(kind, names, part), "", tuple(sorted(of_lots)))
         unknown = [lot for lot in names if not any(card.lot == lot for card in cards)]
         notes = [f"no line here knows the lot {lot}" for lot in unknown]
-        return Asked(its, [*known.faults, *known.twice(of_lots)], notes)
+        return Meant(its, [*known.faults, *known.twice(of_lots)], notes)
     return where(terms_of(names), known, lines)
 
 
-def where(terms: Terms, known: Known, lines: Sequence[Line]) -> Asked:
+def where(terms: Terms, known: Known, lines: Sequence[Line]) -> Meant:
     """The question for the reels with these attributes. A reel whose attributes nobody knows may be
     one of them.
     """
@@ -203,4 +203,4 @@ def where(terms: Terms, known: Known, lines: Sequence[Line]) -> Asked:
     taken = sorted(reel for reel, its in those.items() if any(map(terms.take, its)))
     reels = known.followed(taken)
     faults += known.twice(taken)
-    return Asked(Question("reels", str(terms), "", tuple(reels)), faults, [], known)
+    return Meant(Question("reels", str(terms), "", tuple(reels)), faults, [], known)

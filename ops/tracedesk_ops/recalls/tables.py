@@ -7,8 +7,7 @@ from collections.abc import Iterable, Sequence
 from typing import Any
 
 from tracedesk_ops import catalogue, story, untraced
-from tracedesk_ops.firstlook import Piece, Reel
-from tracedesk_ops.recalls.desk import Question
+from tracedesk_ops.firstlook import Piece, Question, ReelLeft
 from tracedesk_ops.recalls.recall import Asked, Recall
 
 Table = list[Sequence[Any]]  # the first row is the header
@@ -73,7 +72,7 @@ def tables_of(recall: Recall, shipped: Shipped | None) -> dict[str, Table]:
             *([*it[:8], spelled(it.minute), *it[9:]] for it in recall.pieces),
         ],
         "reels": [
-            [*Reel._fields[:-1], "as_of"],
+            [*ReelLeft._fields[:-1], "as_of"],
             *([*it[:-1], spelled(it.minute) or now] for it in recall.reels),
         ],
         "asked": [Asked._fields, *recall.asked],
