@@ -15,10 +15,10 @@ from unittest import mock
 import pytest
 from lab.waits import wait_for
 from tracedesk_dev import processes
-from tracedesk_ops.cmd import recall
 from tracedesk_ops.recallpage import jobs, pages, papers, view
 from tracedesk_ops.recallpage.jobs import JobQuestion, Queue
 from tracedesk_ops.recallpage.worker import Worker
+from tracedesk_ops.recalls import words
 
 pytestmark = [pytest.mark.needs("python:flask"), pytest.mark.xdist_group("recall_page")]
 
@@ -157,14 +157,9 @@ def test_a_name_in_the_queue_is_no_option(
     argv[argv.index(evidence)] = f"--evidence={queue.folder}/evidence"
     monkeypatch.delenv("PROGRAM", raising=False)
     with mock.patch.object(sys, "argv", ["tracedesk-recall", *argv]):
-        words = recall.parse()
-    assert (words.kind, words.names, words.part) == (kind, names, part or None)
-    assert (words.program, words.key, words.unsigned, words.html) == (
-        "tracedesk",
-        None,
-        False,
-        None,
-    )
+        asks = words.parse("")
+    assert (asks.kind, asks.names, asks.part) == (kind, names, part or None)
+    assert (asks.program, asks.key, asks.unsigned, asks.html) == ("tracedesk", None, False, None)
 
 
 LINKS = """

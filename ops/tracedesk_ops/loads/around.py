@@ -11,6 +11,16 @@ from tracedesk_ops.loads.tables import Seen, Tables
 
 # what is missing of a line in which nobody looked for them
 LOOK = "untraced work and doubtful pieces"
+NOT_LOOKED_FOR = f"{LOOK} were not looked for, since not all of it is loaded"
+FATE = ("At", "Became", "By", "Reason")  # of a decision
+WORK = """
+    INSERT INTO untraced VALUES (%s, %s, %s, %s, %s, %s, %s, %s, %s, %s, %s, %s, %s, %s)
+    ON CONFLICT (line, id) DO UPDATE SET decided = excluded.decided, became = excluded.became,
+        decided_by = excluded.decided_by, reason = excluded.reason
+        WHERE excluded.decided >= untraced.decided"""
+DOUBT = """
+    INSERT INTO doubtful VALUES (%s, %s, %s, %s, %s, %s, %s, %s, %s, %s, %s, %s, %s)"""
+LOOKED = "INSERT INTO looked VALUES (%s, %s) ON CONFLICT (line) DO UPDATE SET at = excluded.at"
 
 
 class Around:
@@ -37,69 +47,28 @@ class Around:
         its = doubtful.look(self.folder, files if is_whole else [])
         with tables.link.transaction():
             for it, by, reels in its.works:
-                told = (
-                    [by.told[key] for key in ("At", "Became", "By", "Reason")] if by else [""] * 4
-                )
-                tables.do(
-                    (
-                        "INSERT INTO untraced VALUES (%s, %s, %s, %s, %s, %s, %s, %s, %s, %s, %s,"
-                        " %s, %s, %s) ON CONFLICT (line, id) DO UPDATE SET decided ="
-                        " excluded.decided, became = excluded.became, decided_by ="
-                        " excluded.decided_by, reason = excluded.reason WHERE excluded.decided >="
-                        " untraced.decided"
-                    ),
-                    self.line,
-                    it.id,
-                    *untraced.said(it)[2:9],
-                    reels,
-                    *told,
-                )
-            if not (
-                faults := [
-                    *its.faults,
-                    *(
-                        self.unseen(tables)
-                        if is_whole
-                        else [
-                            f"{self.folder}: {LOOK} were not looked for, since not all of it is"
-                            " loaded"
-                        ]
-                    ),
-                ]
-            ):
-                tables.do("DELETE FROM doubtful WHERE line = %s", self.line)
-                tables.do("DELETE FROM refused WHERE line = %s", self.line)
-                for reel, machine in (
-                    (reel, it)
-                    for reel, machines in its.story.machines.items()
-                    if reel and reel not in its.story.parts
-                    for it in machines
-                ):
-                    tables.do("INSERT INTO refused VALUES (%s, %s, %s)", self.line, reel, machine)
-                for piece in its.pieces:
-                    tables.do(
-                        (
-                            "INSERT INTO doubtful VALUES (%s, %s, %s, %s, %s, %s, %s, %s, %s, %s,"
-                            " %s, %s, %s)"
-                        ),
-                        self.line,
-                        *piece[:7],
-                        list(piece.other_reels),
-                        list(piece.other_lots),
-                        piece.why,
-                        names[piece.file],
-                        its.story.parts.get(piece.reel, ""),
-                    )
-                tables.has(self.line, LOOK)
-                tables.do(
-                    (
-                        "INSERT INTO looked VALUES (%s, %s) ON CONFLICT (line) DO UPDATE SET at ="
-                        " excluded.at"
-                    ),
-                    self.line,
-                    self.checksum,
-                )
+                told = [by.told[key] for key in FATE] if by else [""] * len(FATE)
+                tables.do(WORK, self.line, it.id, *untraced.said(it)[2:9], reels, *told)
+            unseen = self.unseen(tables) if is_whole else [f"{self.folder}: {NOT_LOOKED_FOR}"]
+            if not (faults := [*its.faults, *unseen]):
+                self.load_doubts(tables, its, names)
         return faults
+
+    def load_doubts(self, tables: Tables, its: doubtful.Doubts, names: dict[str, str]) -> None:
+        """Puts what is in doubt into the tables, in the place of what was. `names` are those of the
+        files in the tables.
+        """
+        tables.do("DELETE FROM doubtful WHERE line = %s", self.line)
+        tables.do("DELETE FROM refused WHERE line = %s", self.line)
+        for reel, machines in its.story.machines.items():
+            for machine in machines if reel and reel not in its.story.parts else ():
+                tables.do("INSERT INTO refused VALUES (%s, %s, %s)", self.line, reel, machine)
+        for piece in its.pieces:
+            others = [list(piece.other_reels), list(piece.other_lots)]
+            of = names[piece.file], its.story.parts.get(piece.reel, "")
+            tables.do(DOUBT, self.line, *piece[:7], *others, piece.why, *of)
+        tables.has(self.line, LOOK)
+        tables.do(LOOKED, self.line, self.checksum)
 
     def unseen(self, tables: Tables) -> list[str]:
         """Files of the line that are loaded, and aren't among these: then these alone don't say

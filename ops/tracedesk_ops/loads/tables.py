@@ -30,6 +30,10 @@ STARTS = "SELECT ?1, number, command, effective FROM accepted WHERE command LIKE
 UID_OF = "SELECT uid FROM accepted WHERE number = ?"
 SEEN = "SELECT count(*), min(effective), max(effective) FROM accepted"
 SAID = "SELECT uid, source, own, command FROM accepted WHERE command <> 'ClockSet'"
+FILE = (
+    "INSERT INTO file (id, line, name, sha256, first_minute, last_minute, commands, last_uid,"
+    " pieces, taken, said, mark) VALUES (%s, %s, %s, %s, %s, %s, %s, %s, %s, %s, %s, %s)"
+)
 PLACES = "MaterialsInstalled\t"  # how the commands begin that place pieces
 
 
@@ -153,74 +157,48 @@ class Tables:
         """Makes a file a part, in the place of the files that it replaces. How many pieces it has,
         and the copies of which it lacks commands.
         """
-        self.do("TRUNCATE its")
-        said = self.copy(
-            "its FROM STDIN",
-            (
-                fields(
-                    hashlib.md5(
-                        "\n".join(map(str, row)).encode(), usedforsecurity=False
-                    ).hexdigest(),
-                    row[3].startswith(PLACES),
-                )
-                for row in database.execute(SAID)
-            ),
-        )
+        said = self.commands_of(database)
         replaced, cut = self.gives_way(seen, said)
         ((commands, first, last),) = database.execute(SEEN)
         ((uid,),) = database.execute(UID_OF, [commands]).fetchall() or [("",)]
-        mark = sealed.begun_from(database)
         with self.link.transaction():
             number = self.rows("SELECT nextval('file_id') AS it")[0].it
-            part = f"placement_{number}"
-            self.do(
-                f"CREATE TABLE {part} (LIKE placement, CONSTRAINT part CHECK (file = {number}))"
-            )
-            plant.reached("created")
-            pieces = self.copy(
-                f"{part} FROM STDIN WITH (FREEZE)",
-                (line for (line,) in database.execute(PLACEMENTS, [number])),
-            )
-            self.do(
-                f"CREATE INDEX ON {part} (reel); CREATE INDEX ON {part} (board); ANALYZE {part}"
-            )
-            plant.reached("indexed")
+            pieces = self.part(number, database)
             self.give_way(seen, replaced, cut)
-            self.do(
-                (
-                    "INSERT INTO file (id, line, name, sha256, first_minute, last_minute, commands,"
-                    " last_uid, pieces, taken, said, mark) VALUES (%s, %s, %s, %s, %s, %s, %s, %s,"
-                    " %s, %s, %s, %s)"
-                ),
-                number,
-                seen.line,
-                seen.name,
-                seen.sha256,
-                first,
-                last,
-                commands,
-                uid,
-                pieces,
-                seen.taken,
-                said,
-                mark,
-            )
+            told = (commands, uid, pieces, seen.taken, said, sealed.begun_from(database))
+            self.do(FILE, number, seen.line, seen.name, seen.sha256, first, last, *told)
             self.do("INSERT INTO command SELECT %s, identity, places FROM its", number)
             self.expect(seen.line)
-            self.copy(
-                "reel FROM STDIN", (fields(*row) for row in database.execute(REELS, [number]))
-            )
-            self.copy(
-                "start FROM STDIN",
-                (
-                    fields(*row[:2], *row[2].split("\t")[1:], row[3])
-                    for row in database.execute(STARTS, [number])
-                ),
-            )
+            reels = database.execute(REELS, [number])
+            self.copy("reel FROM STDIN", (fields(*row) for row in reels))
+            starts = database.execute(STARTS, [number])
+            boards = (fields(*row[:2], *row[2].split("\t")[1:], row[3]) for row in starts)
+            self.copy("start FROM STDIN", boards)
+            part = f"placement_{number}"
             self.do(f"ALTER TABLE placement ATTACH PARTITION {part} FOR VALUES IN ({number})")
             plant.reached("attached")
         plant.reached("committed")
         return pieces, cut
+
+    def commands_of(self, database: sqlite3.Connection) -> int:
+        """Puts what a file's commands are into the table `its`; how many they are."""
+        self.do("TRUNCATE its")
+        rows = database.execute(SAID)
+        texts = (("\n".join(map(str, row)).encode(), row[3]) for row in rows)
+        digests = ((hashlib.md5(text, usedforsecurity=False), word) for text, word in texts)
+        lines = (fields(its.hexdigest(), word.startswith(PLACES)) for its, word in digests)
+        return self.copy("its FROM STDIN", lines)
+
+    def part(self, number: int, database: sqlite3.Connection) -> int:
+        """Makes the part of a file's pieces, which isn't attached yet; how many they are."""
+        part = f"placement_{number}"
+        self.do(f"CREATE TABLE {part} (LIKE placement, CONSTRAINT part CHECK (file = {number}))")
+        plant.reached("created")
+        lines = (line for (line,) in database.execute(PLACEMENTS, [number]))
+        pieces = self.copy(f"{part} FROM STDIN WITH (FREEZE)", lines)
+        self.do(f"CREATE INDEX ON {part} (reel); CREATE INDEX ON {part} (board); ANALYZE {part}")
+        plant.reached("indexed")
+        return pieces
 
     def give_way(self, seen: Seen, replaced: list[Any], cut: list[Any]) -> None:
         """Takes out the older copies of the same desk. One of another desk stays, under a name of
@@ -271,31 +249,38 @@ class Tables:
                 )
             if it.line != seen.line or not both:
                 continue
-            if not it.taken and both == said and placing and seen.taken:
-                raise LoadedBefore(
-                    f"loaded before: all of its commands are in the archive {it.name}"
-                )
-            if (
-                not it.taken and placing
-            ):  # else a sender set the same up again: no piece is there twice
-                raise plant.Fault(
-                    f"{seen.file}: {both:,} of its {said:,} commands are in {it.name} too, which is"
-                    " loaded, and would count twice. Where a restore has put that archive aside,"
-                    " drop it: drop.sql; then call again"
-                )
             if not it.taken:
-                continue
-            if both == it.said:
+                want_no_piece_twice(seen, said, it, counts[it.id])
+            elif both == it.said:
                 replaced.append(it)
             elif not seen.taken or it.sha256 in seen.off:
                 cut.append(it)
-            elif both == said:
-                raise LoadedBefore(f"loaded before, as of {it.taken}")
             else:
-                raise plant.Fault(
-                    f"{seen.file}: {said - both:,} of its commands are not in the copy of"
-                    f" {it.taken}, which is loaded, and lacks {it.said - both:,} of that: the desk"
-                    " was set back, or two machines went on from one copy. Its senders send them"
-                    " again; or drop the loaded one: drop.sql"
-                )
+                raise set_back(seen, said, it, both)
         return replaced, cut
+
+
+def want_no_piece_twice(seen: Seen, said: int, it: Any, its: Any) -> None:
+    """A Fault if pieces of an archive that is loaded would count twice. A sender may have set the
+    same up again: then no piece is there twice.
+    """
+    if its.both == said and its.placing and seen.taken:
+        raise LoadedBefore(f"loaded before: all of its commands are in the archive {it.name}")
+    if its.placing:
+        raise plant.Fault(
+            f"{seen.file}: {its.both:,} of its {said:,} commands are in {it.name} too, which is"
+            " loaded, and would count twice. Where a restore has put that archive aside,"
+            " drop it: drop.sql; then call again"
+        )
+
+
+def set_back(seen: Seen, said: int, it: Any, both: int) -> Exception:
+    """Why a copy doesn't take the place of an older one, which has other commands."""
+    if both == said:
+        return LoadedBefore(f"loaded before, as of {it.taken}")
+    return plant.Fault(
+        f"{seen.file}: {said - both:,} of its commands are not in the copy of"
+        f" {it.taken}, which is loaded, and lacks {it.said - both:,} of that: the desk"
+        " was set back, or two machines went on from one copy. Its senders send them"
+        " again; or drop the loaded one: drop.sql"
+    )

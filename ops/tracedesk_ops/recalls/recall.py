@@ -242,7 +242,7 @@ class Recall:
         self.reels += held if left is None else left
 
     def ask_desk(self, line: Line) -> list[ReelLeft] | None:
-        """Asks a running desk; what is left of the reels by its file, none if that is not at hand."""
+        """Asks a running desk; what is left of the reels by its file, if that is at hand."""
         about = About(line.name, RUNNING)
         desk = self.desks.setdefault(line.name, self.desk_of(line))
         newest = next(reversed(self.own(line)), None)

@@ -1,0 +1,245 @@
+"""The words of tracedesk-recall, and the files that they name."""
+from __future__ import annotations
+
+import argparse
+import csv
+import io
+import netrc
+import os
+import pathlib
+import re
+import ssl
+import stat
+import sys
+import urllib.parse
+from collections.abc import Iterable, Iterator, Sequence
+from typing import Any, NoReturn
+
+from tracedesk.desk import checked_url
+from tracedesk_ops import carry, options, places, plant, reader_of
+from tracedesk_ops.firstlook import Line
+from tracedesk_ops.recalls import sets
+from tracedesk_ops.recalls.evidence import read_once
+from tracedesk_ops.recalls.tables import Shipped
+
+
+def stop(text: str, status: int = 2) -> NoReturn:
+    plant.tell(text)
+    sys.exit(status)
+
+
+def parse(text: str | None) -> argparse.Namespace:
+    """The words of the command line; `text` is the tool's help."""
+    parser = reader_of(text)
+    kinds = ("lot", "reel", "board", "where")
+    parser.add_argument("kind", choices=kinds, metavar="KIND", help="how the names are meant")
+    parser.add_argument("names", nargs="+", type=carry.identifier, help="its names, or attributes")
+    parser.add_argument("--part", type=carry.identifier, help="of lots, this part alone")
+    parser.add_argument(
+        "--line", nargs=3, action="append", default=[], metavar=("LINE", "URL", "FOLDER")
+    )
+    parser.add_argument(
+        "--show", choices=("boards", "pieces", "reels", "asked", "untraced", "doubtful")
+    )
+    for option, metavar in (
+        ("lines", "FILE"),
+        ("shipped", "FILE"),
+        ("html", "FILE"),
+        ("evidence", "FOLDER"),
+        ("key", "FILE"),
+        ("cacert", "FILE"),
+        ("netrc", "FILE"),
+    ):
+        parser.add_argument(f"--{option}", type=pathlib.Path, metavar=metavar)
+    parser.add_argument("--unsigned", action="store_true")
+    parser.add_argument("--customer", metavar="NAME")
+    parser.add_argument(
+        "--program",
+        default=os.environ.get("PROGRAM", "tracedesk"),
+        help=(
+            "the program whose version is recorded; else PROGRAM in the environment, or tracedesk"
+            " on the path"
+        ),
+    )
+    words = parser.parse_args()
+    want_sense(words)
+    return words
+
+
+def want_sense(words: argparse.Namespace) -> None:
+    """Stops where some words don't go together."""
+    if words.kind == "board" and len(words.names) > 1:
+        stop("a recall is of one board: ask for each by itself")
+    if words.part and words.kind != "lot":
+        stop("--part is of lots: with `where` say part=PART")
+    if words.kind == "where":
+        try:
+            sets.terms_of(words.names)
+        except ValueError as fault:
+            stop(str(fault))
+    if words.customer and not (words.shipped and words.evidence and not words.html):
+        stop(
+            "--customer wants --shipped and --evidence, and has no --html: the evidence has a page"
+        )
+    if words.key and words.unsigned:
+        stop("--key signs the evidence, and --unsigned doesn't: say one of them")
+    for path in (words.html, words.evidence):
+        if path and (os.path.lexists(path) or not os.path.isdir(path.absolute().parent)):
+            stop(
+                (
+                    f"{path}: it is there already, and nothing is overwritten"
+                    if os.path.lexists(path)
+                    else f"{path}: there is no folder for it"
+                ),
+                4,
+            )
+
+
+def rows_of(path: pathlib.Path, header: Sequence[str]) -> Iterator[list[str]]:
+    """The rows of a CSV file that has the columns of a header, and may have more; the tool stops
+    where it can't be read.
+    """
+    try:
+        rows = csv.DictReader(
+            io.StringIO(read_once(path).decode("utf-8-sig"), newline=""), strict=True
+        )
+        if lacking := [it for it in header if it not in (rows.fieldnames or [])]:
+            stop(
+                f"{path}: it has no column {', '.join(lacking)}: its first line is"
+                f" {','.join(header)}"
+            )
+        for row in rows:
+            if None in row or None in row.values():
+                stop(
+                    f"{path}, line {rows.line_num}: it has more or fewer fields than the first line"
+                )
+            yield [row[it].strip() for it in header]
+    except (OSError, UnicodeDecodeError, csv.Error) as fault:
+        stop(f"{path}: it can't be read: {fault}")
+
+
+def lines_of(words: argparse.Namespace) -> list[Line]:
+    """The lines that are asked: those of the command line, else those of the set-up files."""
+    told = [(pathlib.Path(), *it) for it in words.line]
+    if words.lines:
+        rows = rows_of(words.lines, ("line", "url", "folder"))
+        told += [(words.lines.parent, *it) for it in rows]
+    if not told:
+        told = [
+            (pathlib.Path(), it["line"], it["url"], str(pathlib.Path(it["db"]).parent))
+            for it in options.set_ups()
+        ]
+    lines: list[Line] = []
+    seen: dict[tuple[str, Any], str] = {}
+    for folder, name, url, path in told:
+        it = line_of(folder, name, url, path)
+        for what in ("name", name), ("running desk", desk_of(it, url)), ("folder", it.folder):
+            if what in seen:
+                stop(
+                    f"the lines {seen[what]} and {name} have the same {what[0]}: each is asked once"
+                )
+            if what[1]:
+                seen[what] = name
+        if not name:
+            stop("a line has no name")
+        lines.append(it)
+    return lines or stop(
+        f"no line is named, and none is set up in {places.FOLDER}: --line NAME URL FOLDER, or"
+        " --lines FILE"
+    )
+
+
+def line_of(folder: pathlib.Path, name: str, url: str, path: str) -> Line:
+    """A line by its words; the path is from this folder on."""
+    if path in ("", "-"):
+        stop(f"the line {name} has no folder: name that of its desk")
+    at = pathlib.Path(os.path.abspath(folder / path))  # a link stays one, as in each tool
+    if not is_folder(at) and at.exists():
+        stop(f"{at} is a file: name the folder of the line {name}")
+    return Line(name, "" if url == "-" else url, at)
+
+
+def desk_of(line: Line, url: str) -> tuple[str | None, int, str] | None:
+    """Where the running desk of a line is, if one is asked."""
+    try:
+        return place_of(line.url) if line.url else None
+    except ValueError as fault:
+        stop(
+            f"the running desk of the line {line.name} is no URL, as http://127.0.0.1:8080:"
+            f" {url!r}: {fault}"
+        )
+
+
+def is_folder(path: pathlib.Path) -> bool:
+    """Whether a folder is there. What no path can be, as links in a circle, is an OSError or a
+    ValueError.
+    """
+    try:
+        return stat.S_ISDIR(os.stat(path).st_mode)
+    except (FileNotFoundError, NotADirectoryError):
+        return False
+
+
+def place_of(url: str) -> tuple[str | None, int, str]:
+    """Where a URL leads, however it is written; a ValueError if it is none of a desk."""
+    parts = checked_url(url)
+    port = parts.port or (443 if parts.scheme == "https" else 80)
+    return parts.hostname, port, parts.path.rstrip("/")
+
+
+def want_secrets_kept(lines: Iterable[Line], users: netrc.netrc | None) -> None:
+    """Stops where a password would go over a network in plain text."""
+    for it in lines:
+        to = urllib.parse.urlsplit(it.url)
+        host = to.hostname or ""
+        is_here = re.fullmatch(r"localhost|127\..*|::1", host)
+        if users and to.scheme == "http" and users.authenticators(host) and not is_here:
+            stop(
+                f"the running desk of the line {it.name} would have its password in plain text:"
+                f" ask it by https, or leave {host} out of the file of --netrc"
+            )
+
+
+def shipped_of(path: pathlib.Path) -> Shipped:
+    shipped: Shipped = {}
+    for board, *row in rows_of(path, ("board", "customer", "date")):
+        if not row[0]:
+            stop(f"{path}: board {board} has no customer: leave out what was not shipped")
+        if row not in shipped.setdefault(board, []):
+            shipped[board].append(row)
+    return shipped
+
+
+def users_of(path: pathlib.Path | None) -> netrc.netrc | None:
+    try:
+        return netrc.netrc(path) if path else None
+    except (OSError, UnicodeDecodeError, netrc.NetrcParseError) as fault:
+        stop(f"{path}: it can't be read: {fault}")
+
+
+def context_of(path: pathlib.Path | None, lines: Iterable[Line]) -> ssl.SSLContext | None:
+    """By which certificates https URLs are known; none where no URL is one, since reading them
+    takes time.
+    """
+    try:
+        return (
+            ssl.create_default_context(cafile=path)
+            if path or any(it.url.startswith("https:") for it in lines)
+            else None
+        )
+    except OSError as fault:
+        stop(f"{path}: it is no certificate that can be read: {fault}")
+
+
+def key_of(words: argparse.Namespace) -> pathlib.Path | None:
+    """The key that signs the evidence; none if no set-up file names one."""
+    if words.unsigned or not words.evidence:
+        return None
+    if words.key:
+        return pathlib.Path(words.key)
+    keys = sorted({its["key"] for its in options.set_ups() if "key" in its})
+    if len(keys) > 1:
+        stop(
+            f"the set-up files in {places.FOLDER} name the keys {', '.join(keys)}: say one by --key"
+        )
+    return pathlib.Path(keys[0]) if keys else None
