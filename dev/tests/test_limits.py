@@ -21,7 +21,7 @@ PLACES = {
         "clients/python/tracedesk/words.py crates/desk_types/src/level.rt"
         " dev/tracedesk_dev/desk_cases.py dev/tracedesk_dev/reports.py"
         " docs/api/message.schema.json docs/api/messages.json docs/api/openapi.json docs/lesson.md"
-        " docs/messages.md ops/tracedesk_ops/carry.py station/names.js station/setup.js"
+        " docs/messages.md ops/tracedesk_ops/desk_tables.py station/names.js station/setup.js"
     ),
     "GREATEST_MINUTE": "ops/tracedesk_ops/heads.py",
     "GREATEST_QUANTITY": (

@@ -6,7 +6,7 @@ from __future__ import annotations
 
 import pathlib
 
-from tracedesk_ops import carry, copies, sealed
+from tracedesk_ops import carry, copies, desk_tables, sealed
 
 
 def begun(
@@ -15,7 +15,9 @@ def begun(
     """The messages, and what the new desk doesn't know. `at` is its minute, if that is another."""
     with copies.copied(file) as copy:
         copies.fold(copy)
-        lines, carrier = carry.begun(carry.DeskTables(copy), sealed.digits_of(copy), at, loads)
+        lines, carrier = carry.begun(
+            desk_tables.DeskTables(copy), sealed.digits_of(copy), at, loads
+        )
     return [str(line) for line in lines], [*carrier.notes()]
 
 

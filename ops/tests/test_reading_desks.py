@@ -140,7 +140,7 @@ def test_unexpected_failure_has_a_status_of_its_own(line: Line) -> None:
     line.end()
     other = line.folder / "other"
     shutil.copyfile(line.file, other)
-    change = "from tracedesk_ops import carry; carry.DeskTables = None"
+    change = "from tracedesk_ops import desk_tables; desk_tables.DeskTables = None"
     run_changed("move", ["K1", "--from", line.file, "--to", other], change).expect(9, "foresaw")
 
 

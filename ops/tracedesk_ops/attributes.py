@@ -20,7 +20,7 @@ import pathlib
 from collections.abc import Iterable, Sequence
 from typing import NamedTuple
 
-from tracedesk_ops import carry, catalogue, files, heads, model, plant
+from tracedesk_ops import catalogue, files, heads, model, options, plant
 
 FILE_NAME, NOTE = "reels.csv", "reels.json"
 ASKED = ("reel", "part", "lot", "date_code", "supplier", "maker_part", "order")
@@ -54,7 +54,7 @@ class AttributeRow(NamedTuple):
 def fault_of(its: Reel) -> str:
     """Why a book takes no row of these values; empty if it does."""
     try:
-        carry.identifier(its.reel)
+        options.identifier(its.reel)
     except argparse.ArgumentTypeError as fault:
         return str(fault)
     if long := [value for value in its if len(value) > LONGEST]:

@@ -7,77 +7,18 @@ told as the floor life: the reel is expired by either.
 """
 from __future__ import annotations
 
-import argparse
-import contextlib
-import copy
 import datetime
-import functools
-import pathlib
-import re
-import sqlite3
-from collections.abc import Callable, Container, Iterable, Iterator
+from collections.abc import Callable, Iterable, Iterator
 from typing import Any, NamedTuple
 
-from tracedesk_ops import catalogue, copies, heads, model, plant, sealed, stored
+from tracedesk_ops import catalogue, model, stored
+from tracedesk_ops.desk_tables import GREATEST_FLOOR_LIFE, KNOWN, DeskTables, Known, NotCarried
+from tracedesk_ops.desk_tables import ReelRow, SheetRow
 
-FLOOR_LIFE = {
-    "1": None,
-    "2": 525_600,
-    "2a": 40_320,
-    "3": 10_080,
-    "4": 4_320,
-    "5": 2_880,
-    "5a": 1_440,
-}
-GREATEST_FLOOR_LIFE = 525_600  # in minutes, a label's too
-FARTHEST_AHEAD = (
-    20_160  # a message may be so many minutes after the desk's, if it doesn't set the clock
-)
+# a message may be so many minutes after the desk's, if it doesn't set the clock
+FARTHEST_AHEAD = 20_160
 LONGEST_MESSAGE = 1_048_576
-# UniqueIDs of each source that a new desk knows of the archive: those that a sender may still send
-# again
-KNOWN = 1_000
 KNOWN_IN_ALL = 20_000  # of all sources, the newest ones
-TABLES = ("accepted", "part", "alternate", "sheet_row", "selected", "reel", "mount", "board")
-OWN = "SELECT uid, number FROM accepted WHERE source = ? AND command = 'ClockSet'"
-COLUMNS = "reel, part, lot, level, label, remaining, used, open_since, baked"
-
-
-class NotCarried(Exception):
-    """Why no messages can be made of a file."""
-
-
-class ReelRow(NamedTuple):
-    """A row of the table reel."""
-
-    reel: str
-    part: str
-    lot: str
-    level: str
-    label: int
-    remaining: int
-    used: int
-    open_since: int
-    baked: int
-
-    def is_open(self) -> bool:
-        return self.open_since >= 0
-
-    def exposure(self, minute: int) -> int:
-        """How many minutes it was open until this one, at most its floor life."""
-        counted = self.used + (minute - self.open_since if self.is_open() else 0)
-        return min(counted, self.limit() or GREATEST_FLOOR_LIFE)
-
-    def limit(self) -> int | None:
-        """Its floor life in minutes, none where it has no limit."""
-        return self.label if self.level == "6" else FLOOR_LIFE[self.level]
-
-    def waits_for_its_bake(self) -> bool:
-        return self.level == "6" and not self.baked
-
-    def runs(self) -> bool:
-        """Whether its minutes out of the bag count for anything."""
-        return not (self.level == "1" or self.waits_for_its_bake())
 
 
 class Setup(NamedTuple):
@@ -91,116 +32,8 @@ class Setup(NamedTuple):
     text: str
 
 
-Known = tuple[int, str, str, int]  # number, UniqueID, source and own minute of a command
-SheetRow = tuple[str, str, list[str]]  # slot, part, designators
-Mount = tuple[
-    int, str, str, ReelRow, bool
-]  # minutes before the end, machine, slot, reel, is it a splice
-Opener = Callable[[pathlib.Path], contextlib.AbstractContextManager[sqlite3.Connection]]
-
-
-class DeskTables:
-    """What the tables of a desk's file say; the file is opened as `opened` does it."""
-
-    def __init__(self, path: pathlib.Path, opened: Opener = copies.opened) -> None:
-        with opened(path) as database:
-            self.read(database)
-
-    def read(self, database: sqlite3.Connection) -> None:
-        rows = functools.partial(copies.rows, database)
-        try:
-            ((number, self.greatest),) = rows("SELECT number, greatest FROM version")
-        except (sqlite3.Error, ValueError):
-            raise NotCarried("it is no desk's file")
-        names = {name for (name,) in rows("SELECT name FROM sqlite_master WHERE type = 'table'")}
-        if number not in (1, 2) or not names.issuperset(TABLES):
-            raise NotCarried(f"it has tables of version {number}, or some are missing")
-        ((self.commands, self.minute),) = rows("SELECT count(*), max(effective) FROM accepted")
-        self.parts = [part for (part,) in rows("SELECT part FROM part ORDER BY part")]
-        self.alternates = dict.fromkeys(
-            rows("SELECT part, alternate FROM alternate ORDER BY part, alternate")
-        )
-        self.sheets: dict[tuple[str, str], list[SheetRow]] = {}
-        for product, machine, slot, part, designators in rows(
-            "SELECT product, machine, slot, part, designators FROM sheet_row ORDER BY product,"
-            " machine, place"
-        ):
-            self.sheets.setdefault((product, machine), []).append(
-                (slot, part, designators.split(" "))
-            )
-        self.selected = dict(rows("SELECT machine, product FROM selected ORDER BY machine"))
-        self.reels = {
-            row[0]: ReelRow(*row)
-            for row in rows(f"SELECT {COLUMNS} FROM reel WHERE remaining > 0 ORDER BY reel")
-        }
-        self.spent = {reel for (reel,) in rows("SELECT reel FROM reel WHERE remaining = 0")}
-        self.tapes: dict[tuple[str, str], list[ReelRow]] = {}
-        for machine, slot, reel in rows(
-            "SELECT machine, slot, reel FROM mount ORDER BY machine, slot, since"
-        ):
-            self.tapes.setdefault((machine, slot), []).append(self.reels[reel])
-        self.in_work = rows("SELECT machine, board FROM board WHERE machine <> '' ORDER BY machine")
-        recorded = [heads.recorded_in(database, kind) for kind in model.BOOKS]
-        self.heads = [uids[-1] for uids in recorded if uids]  # the newest of each book
-        self.numbers = dict(rows(OWN, model.SOURCE))  # of its heads, by their UniqueIDs
-        begun = sealed.begun_with(database, sealed.begun_from(database), "main")
-        self.known = known(database, begun)
-        self.unknown = 0  # older ones
-        its = [
-            name
-            for name, *_ in rows(
-                "SELECT name FROM sqlite_master WHERE type = 'table' AND name NOT LIKE 'sqlite_%'"
-            )
-        ]
-        self.of_others = sorted(set(its) - {*TABLES, "version", "placement", "found"})
-
-    def of_one_reel(
-        self, name: str, called: str, known_parts: Container[str], minute: int
-    ) -> DeskTables:
-        """A desk that has nothing but this reel, as it is at that minute, under the name by which
-        it is called there.
-        """
-        it = copy.copy(self)
-        reel = self.reels[name]._replace(reel=called)
-        if not reel.runs():  # so there are no minutes to tell
-            reel = reel._replace(used=0, open_since=minute if reel.is_open() else -1)
-        it.parts, it.alternates, it.sheets, it.selected = (
-            [part for part in [reel.part] if part not in known_parts],
-            {},
-            {},
-            {},
-        )
-        it.reels, it.tapes, it.in_work, it.minute = {called: reel}, {}, [], minute
-        return it
-
-
-def known(database: sqlite3.Connection, begun: int) -> list[Known]:
-    """The last UniqueIDs of each source, the newest first: their number, source and own minute.
-    What the desk was begun with, and its heads, are left out, but not the UniqueIDs of its own
-    archive that it was told then: those are older than the rest, the newest first.
-    """
-    ((first, source),) = database.execute(
-        "SELECT max(uid), max(source) FROM accepted WHERE number = 1"
-    ).fetchall()
-    numbered = f"{first[:-1]}%" if begun else ""
-    return database.execute(
-        """
-        WITH those AS (SELECT *, iif(number > ?1, number, -number) AS turn FROM accepted
-            WHERE NOT (number <= ?1 AND source = ?2 AND uid LIKE ?3) AND NOT (source = ?4 AND command = 'ClockSet'))
-        SELECT number, uid, source, own FROM (SELECT *, row_number() OVER (PARTITION BY source ORDER BY turn DESC) AS place FROM those)
-        WHERE place <= ?5 ORDER BY turn DESC""",
-        [begun, source, numbered, model.SOURCE, KNOWN],
-    ).fetchall()
-
-
-def judged(path: pathlib.Path, program: str) -> DeskTables:
-    """What the tables of a desk's file say, once an audit has found its copy lawful: else a changed
-    bit would go to another desk.
-    """
-    with copies.copied(path) as copy_of_it:
-        archive = DeskTables(copy_of_it, copies.database)
-        plant.Program(program, copy_of_it).audit(copy_of_it)
-        return archive
+# minutes before the end, machine, slot, reel, is it a splice
+Mount = tuple[int, str, str, ReelRow, bool]
 
 
 class Messages:
@@ -437,33 +270,3 @@ def setup(uid: str, source: str, stamp: str, body: dict[str, Any]) -> Setup:
 
 def spelled(minute: int) -> str:
     return f"{catalogue.EPOCH + datetime.timedelta(minutes=minute):%Y-%m-%d %H:%M UTC}"
-
-
-def minute_of(text: str) -> int:
-    """The minute of a time in UTC; an offset is taken off."""
-    found = re.fullmatch(
-        r"(\d{4}-\d\d-\d\d)[T ](\d\d:\d\d)(?::\d\d(?:\.\d+)?)?(Z|[+-]\d\d:\d\d)?", text
-    )
-    try:
-        if not found:
-            raise ValueError(text)
-        moment = datetime.datetime.fromisoformat(
-            f"{found[1]}T{found[2]}:00" + (found[3] or "Z").replace("Z", "+00:00")
-        )
-    except ValueError:
-        raise argparse.ArgumentTypeError("a time is written as 2026-03-02T06:00:00Z")
-    minute = (moment - catalogue.EPOCH.replace(tzinfo=datetime.timezone.utc)) // datetime.timedelta(
-        minutes=1
-    )
-    if minute < 0:
-        raise argparse.ArgumentTypeError("a time is from 1970 on")
-    return minute
-
-
-def identifier(text: str) -> str:
-    """A name of the desk's."""
-    if not re.fullmatch(r"[!-~]([ -~]{0,62}[!-~])?", text):
-        raise argparse.ArgumentTypeError(
-            "a name is 1 to 64 printable ASCII letters, without a space at its ends"
-        )
-    return text

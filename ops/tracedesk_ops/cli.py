@@ -57,8 +57,8 @@ import pathlib
 import sys
 from collections.abc import Callable, Sequence
 
-from tracedesk_ops import books, carry, change, check, heads, lineage, options, places, plant
-from tracedesk_ops import reader_of, rollover, sealing, successor
+from tracedesk_ops import books, change, check, desk_tables, heads, lineage, options, places
+from tracedesk_ops import plant, reader_of, rollover, sealing, successor
 from tracedesk_ops.line import Busy, LineFolder, NotALine
 from tracedesk_ops.sealed import Sealed
 from tracedesk_ops.service import Service
@@ -66,7 +66,7 @@ from tracedesk_ops.service import Service
 Path = pathlib.Path
 
 DONE, NO, NOT_NOW, SEE_TO_IT = 0, 1, 3, 4
-FAULTS = (*plant.FAULTS, Busy, NotALine, carry.NotCarried)
+FAULTS = (*plant.FAULTS, Busy, NotALine, desk_tables.NotCarried)
 
 
 def audit_of(asked: argparse.Namespace) -> sealing.Audit:
@@ -284,7 +284,7 @@ def offer_rollover(reader: argparse.ArgumentParser) -> None:
     )
     reader.add_argument(
         "--at",
-        type=carry.minute_of,
+        type=options.minute_of,
         metavar="TIME",
         help="the new desk's minute, if the old one's clock was wrong, as 2026-03-02T06:00:00Z",
     )

@@ -2,12 +2,13 @@
 from __future__ import annotations
 
 import argparse
+import datetime
 import os
 import pathlib
 import re
 import shutil
 
-from tracedesk_ops import model, places
+from tracedesk_ops import catalogue, model, places
 from tracedesk_ops.plant import Fault
 
 SET_UP = places.FOLDER
@@ -121,4 +122,34 @@ def offer_service(reader: argparse.ArgumentParser) -> None:
 def line_name(text: str) -> str:
     if not re.fullmatch(r"[A-Za-z0-9][A-Za-z0-9._-]*", text) or len(text) > model.LONGEST_NAME:
         raise argparse.ArgumentTypeError("a line's name has letters, digits, '.', '_' and '-'")
+    return text
+
+
+def minute_of(text: str) -> int:
+    """The minute of a time in UTC; an offset is taken off."""
+    found = re.fullmatch(
+        r"(\d{4}-\d\d-\d\d)[T ](\d\d:\d\d)(?::\d\d(?:\.\d+)?)?(Z|[+-]\d\d:\d\d)?", text
+    )
+    try:
+        if not found:
+            raise ValueError(text)
+        moment = datetime.datetime.fromisoformat(
+            f"{found[1]}T{found[2]}:00" + (found[3] or "Z").replace("Z", "+00:00")
+        )
+    except ValueError:
+        raise argparse.ArgumentTypeError("a time is written as 2026-03-02T06:00:00Z")
+    minute = (moment - catalogue.EPOCH.replace(tzinfo=datetime.timezone.utc)) // datetime.timedelta(
+        minutes=1
+    )
+    if minute < 0:
+        raise argparse.ArgumentTypeError("a time is from 1970 on")
+    return minute
+
+
+def identifier(text: str) -> str:
+    """A name of the desk's."""
+    if not re.fullmatch(r"[!-~]([ -~]{0,62}[!-~])?", text):
+        raise argparse.ArgumentTypeError(
+            "a name is 1 to 64 printable ASCII letters, without a space at its ends"
+        )
     return text

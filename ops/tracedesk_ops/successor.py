@@ -17,7 +17,7 @@ import subprocess
 from collections.abc import Iterable, Iterator, Sequence
 from typing import Any, NamedTuple
 
-from tracedesk_ops import carry, copies, model, plant, sealed, stored
+from tracedesk_ops import carry, copies, desk_tables, model, plant, sealed, stored
 from tracedesk_ops.sealed import Sealed
 
 Path = pathlib.Path
@@ -78,7 +78,7 @@ class Successor:
 
     def begin(self, file: Sealed) -> None:
         """Makes the new desk, and says what it doesn't know and that both are alike."""
-        carried = carry.DeskTables(file.path, sealed.opened)
+        carried = desk_tables.DeskTables(file.path, sealed.opened)
         at = self.wanted.at
         is_earlier = at is not None and at < carried.minute
         carrier = self.made(carried, file, None if is_earlier else at)
@@ -88,7 +88,7 @@ class Successor:
         for note in (*carrier.notes(), f"tracedesk-chain says of both desks: {alike}"):
             plant.tell(note)
 
-    def made(self, carried: carry.DeskTables, file: Sealed, at: int | None) -> carry.Carrier:
+    def made(self, carried: desk_tables.DeskTables, file: Sealed, at: int | None) -> carry.Carrier:
         """Makes the new desk, each of whose commands was Accepted; who says what it doesn't
         know.
         """
@@ -134,7 +134,7 @@ class Successor:
             words += ["--machine", setup.machine, "--file", given]
             yield self.program.run("import-setup", "--db", self.path, *words, **how).stdout or "{}"
 
-    def compared(self, carried: carry.DeskTables, file: Sealed) -> str:
+    def compared(self, carried: desk_tables.DeskTables, file: Sealed) -> str:
         """What tracedesk-chain says of both desks, which has to be that they are alike. It opens
         what it compares for writing, so it gets a copy of the sealed file; and that has taken the
         commands for which the options stand.
@@ -153,7 +153,7 @@ class Successor:
         plant.without_log(self.path)
         return done.stdout.strip()
 
-    def said_of_options(self, carried: carry.DeskTables, digits: str) -> list[object]:
+    def said_of_options(self, carried: desk_tables.DeskTables, digits: str) -> list[object]:
         messages = carry.Messages(f"asked-{digits}", "asked")
         for machine, board in carried.in_work:
             messages.say(carried.minute, "WorkCompleted", Machine=machine, Board=board)

@@ -47,12 +47,13 @@ import sqlite3
 import sys
 from collections.abc import Iterable, Iterator
 
-from tracedesk_ops import carry, catalogue, copies, lineage, options, plant, reader_of
+from tracedesk_ops import carry, catalogue, copies, desk_tables, lineage, options, plant
+from tracedesk_ops import reader_of
 from tracedesk_ops.line import LineFolder
 
 SOURCE = "move"
 KINDS: dict[type[Exception], str] = {
-    carry.NotCarried: "NotADesk",
+    desk_tables.NotCarried: "NotADesk",
     plant.Fault: "NotLawful",
     copies.InUse: "InUse",
     OSError: "Unreadable",
@@ -65,7 +66,7 @@ class NotMoved(Exception):
     """Why a reel can't be moved so; the text begins with a name, and says what to do."""
 
 
-def desk(path: pathlib.Path, program: str) -> carry.DeskTables:
+def desk(path: pathlib.Path, program: str) -> desk_tables.DeskTables:
     """What a desk's file says, or the newest sealed file of a line's folder."""
     if path.is_dir():
         found = lineage.of(LineFolder(path))
@@ -75,7 +76,7 @@ def desk(path: pathlib.Path, program: str) -> carry.DeskTables:
     if not path.is_file():
         raise NotMoved(f"Unreadable: there is no file {path}")
     try:
-        return carry.judged(path, program)
+        return desk_tables.judged(path, program)
     except tuple(KINDS) as fault:
         raise NotMoved(
             f"{next(name for its, name in KINDS.items() if isinstance(fault, its))}: {path}:"
@@ -83,7 +84,7 @@ def desk(path: pathlib.Path, program: str) -> carry.DeskTables:
         ) from None
 
 
-def want_at_rest(old: carry.DeskTables, name: str) -> None:
+def want_at_rest(old: desk_tables.DeskTables, name: str) -> None:
     """Stops where the old desk has no such reel with pieces left and on no slot."""
     if name in old.spent:
         raise NotMoved(
@@ -105,7 +106,7 @@ def want_at_rest(old: carry.DeskTables, name: str) -> None:
             )
 
 
-def want_new(new: carry.DeskTables, name: str) -> None:
+def want_new(new: desk_tables.DeskTables, name: str) -> None:
     """Stops where the new desk has had a reel of this name."""
     if name in new.reels or name in new.spent:
         left = (
@@ -119,7 +120,9 @@ def want_new(new: carry.DeskTables, name: str) -> None:
         )
 
 
-def end_of(asked: argparse.Namespace, old: carry.DeskTables, new: carry.DeskTables) -> int:
+def end_of(
+    asked: argparse.Namespace, old: desk_tables.DeskTables, new: desk_tables.DeskTables
+) -> int:
     """The minute at which the move is done: the later one of the desks' last minutes, or that of
     --at.
     """
@@ -133,7 +136,7 @@ def end_of(asked: argparse.Namespace, old: carry.DeskTables, new: carry.DeskTabl
     return last if asked.at is None else int(asked.at)
 
 
-def want_time(new: carry.DeskTables, reel: carry.ReelRow, end: int) -> None:
+def want_time(new: desk_tables.DeskTables, reel: desk_tables.ReelRow, end: int) -> None:
     """Stops where the reel would have to begin at a minute that the new desk has passed."""
     exposure = reel.exposure(end)
     if new.minute is None or end - exposure >= new.minute:
@@ -158,10 +161,10 @@ def want_time(new: carry.DeskTables, reel: carry.ReelRow, end: int) -> None:
 
 def arrival(
     asked: argparse.Namespace,
-    old: carry.DeskTables,
-    new: carry.DeskTables,
+    old: desk_tables.DeskTables,
+    new: desk_tables.DeskTables,
     messages: carry.Messages,
-) -> carry.ReelRow:
+) -> desk_tables.ReelRow:
     """Says what the new desk is told, and returns the reel as it is then."""
     called, end = asked.called or asked.reel, end_of(asked, old, new)
     alone = old.of_one_reel(asked.reel, called, new.parts, end)
@@ -177,7 +180,7 @@ def arrival(
     return reel
 
 
-def notes(reel: carry.ReelRow, new: carry.DeskTables, end: int) -> Iterator[str]:
+def notes(reel: desk_tables.ReelRow, new: desk_tables.DeskTables, end: int) -> Iterator[str]:
     """What to look at once the new desk was told."""
     if new.minute is not None and new.minute < end:
         yield (
@@ -197,7 +200,7 @@ def notes(reel: carry.ReelRow, new: carry.DeskTables, end: int) -> Iterator[str]
         )
 
 
-def prefix(asked: argparse.Namespace, old: carry.DeskTables) -> str:
+def prefix(asked: argparse.Namespace, old: desk_tables.DeskTables) -> str:
     called = asked.called or asked.reel
     if len(called) > LONGEST_IN_ID:
         called = hashlib.sha256(called.encode()).hexdigest()[:LONGEST_IN_ID]
@@ -244,13 +247,13 @@ def words(given: list[str] | None = None) -> argparse.Namespace:
     reader.add_argument(
         "--as",
         dest="called",
-        type=carry.identifier,
+        type=options.identifier,
         metavar="NAME",
         help="its name at the new desk, where its own was used there before: label it anew",
     )
     reader.add_argument(
         "--at",
-        type=carry.minute_of,
+        type=options.minute_of,
         metavar="TIME",
         help=(
             "the present time, as 2026-03-02T06:00:00Z, where both desks' last minutes are earlier"

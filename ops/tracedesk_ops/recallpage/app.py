@@ -9,7 +9,7 @@ import re
 import flask
 from werkzeug.exceptions import HTTPException
 
-from tracedesk_ops import carry
+from tracedesk_ops import options
 from tracedesk_ops.recallpage import pages, papers, view
 from tracedesk_ops.recallpage.jobs import (
     KINDS,
@@ -69,7 +69,7 @@ def asked_in(form: "dict[str, str]", reader: str, has_list: bool) -> JobQuestion
         raise NoQuestion("Give one name." if kind == "board" else f"Give 1 to {MOST_NAMES} names.")
     try:
         for text in (*names, *([part] if part else [])):
-            carry.identifier(text)
+            options.identifier(text)
         if kind == "where":
             sets.terms_of(names)
     except (argparse.ArgumentTypeError, ValueError) as fault:

@@ -26,7 +26,7 @@ from collections.abc import Iterable, Iterator, Sequence
 from typing import Any, BinaryIO
 
 from tracedesk import records
-from tracedesk_ops import carry, files
+from tracedesk_ops import files, options
 from tracedesk_ops.recalls import sets
 
 NAME = re.compile(r"\d{8}T\d{6}\.\d{6}Z-[0-9a-f]{8}")
@@ -75,7 +75,7 @@ def asked_in(text: bytes) -> JobQuestion:
         raise ValueError("a name is no text")
     for name in (*names, *([told["part"]] if told["part"] else [])):
         try:
-            carry.identifier(name)
+            options.identifier(name)
         except argparse.ArgumentTypeError as fault:
             raise ValueError(str(fault)) from fault
     if told["kind"] == "where":

@@ -16,7 +16,7 @@ from collections.abc import Iterable, Iterator, Sequence
 from typing import Any, NoReturn
 
 from tracedesk.desk import checked_url
-from tracedesk_ops import carry, options, places, plant, reader_of
+from tracedesk_ops import options, places, plant, reader_of
 from tracedesk_ops.firstlook import Line
 from tracedesk_ops.recalls import sets
 from tracedesk_ops.recalls.evidence import read_once
@@ -33,8 +33,10 @@ def parse(text: str | None) -> argparse.Namespace:
     parser = reader_of(text)
     kinds = ("lot", "reel", "board", "where")
     parser.add_argument("kind", choices=kinds, metavar="KIND", help="how the names are meant")
-    parser.add_argument("names", nargs="+", type=carry.identifier, help="its names, or attributes")
-    parser.add_argument("--part", type=carry.identifier, help="of lots, this part alone")
+    parser.add_argument(
+        "names", nargs="+", type=options.identifier, help="its names, or attributes"
+    )
+    parser.add_argument("--part", type=options.identifier, help="of lots, this part alone")
     parser.add_argument(
         "--line", nargs=3, action="append", default=[], metavar=("LINE", "URL", "FOLDER")
     )
