@@ -9,7 +9,7 @@ import pytest
 from lab.line import Line, table
 from lab.tools import run_tool
 from test_untraced_line import FIRST, LATER, Plant
-from tracedesk_ops import inboxes, untraced
+from tracedesk_ops import collecting, inboxes, untraced
 
 NOW = "2026-03-02T06:05:00Z"
 
@@ -148,7 +148,7 @@ def test_where_too_much_waits_nginx_is_told(plant: Plant, monkeypatch: pytest.Mo
     for of_one, of_all, marks in marks_of:
         monkeypatch.setattr(inboxes, "MOST_OF_ONE", of_one)
         monkeypatch.setattr(inboxes, "MOST_WAITING", of_all)
-        faults = untraced.collect(plant.line.archive)[2]
+        faults = collecting.collect(plant.line.archive)[2]
         assert sorted(it.name for it in plant.inbox.glob("*full")) == marks
         assert len([it for it in faults if "the proxy takes no more" in it]) == len(marks)
 
@@ -158,5 +158,5 @@ def test_a_record_of_two_log_ins_has_one_row(plant: Plant) -> None:
     (file,) = plant.inbox.glob("*.json")
     for owner in ("m1", "m2"):
         file.with_name(f"{owner}~{file.name}").write_bytes(file.read_bytes())
-    assert untraced.collect(plant.line.archive)[1:] == (1, [])
+    assert collecting.collect(plant.line.archive)[1:] == (1, [])
     assert [it.name for it in plant.inbox.glob("*.json")] == [untraced.COLLECTED]

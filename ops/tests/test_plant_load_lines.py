@@ -12,7 +12,7 @@ from lab.recalls import recalled
 from lab.records import a_record, refused
 from lab.tools import Word
 from tracedesk_dev import shift
-from tracedesk_ops import untraced
+from tracedesk_ops import collecting, untraced
 
 pytestmark = [pytest.mark.xdist_group("plant_load_lines")]
 
@@ -190,7 +190,7 @@ def test_untraced_work_is_named_until_it_is_decided(doubted: Doubted) -> None:
     record = doubted.put(a_record(1))
     doubted.load()
     assert record in database.query("pieces", 3, lot="L1").said
-    untraced.decide(line.archive, record, "A. Person", "scrapped", "as seen")
+    collecting.decide(line.archive, record, "A. Person", "scrapped", "as seen")
     doubted.load()
     said = database.query("pieces", 3, lot="L1").said
     assert record not in said and "in the table plant.untraced: 1" in said

@@ -12,7 +12,7 @@ import pytest
 from lab import messages
 from lab.killed import killed_at
 from lab.records import a_record, boards, make_inbox, refused
-from tracedesk_ops import catalogue, doubted, handling, plant, story, untraced
+from tracedesk_ops import catalogue, collecting, doubted, handling, plant, story, untraced
 
 ALL = ["B0", "B1", "B2"]
 MOST_WRITES = 100  # of a collect
@@ -34,10 +34,10 @@ def test_each_record_has_one_row_wherever_collect_is_killed(folder: pathlib.Path
     for number in range(1, MOST_WRITES):
         archive = make_inbox(folder / f"kill-{number}")
         with killed_at(number) as writes:
-            untraced.collect(archive)
+            collecting.collect(archive)
         if not untraced.read(archive).faults:
             assert boards(archive) == ALL, f"before write {number}"
-        untraced.collect(archive)
+        collecting.collect(archive)
         rows, faults = untraced.rows_of(archive)
         assert (sorted(untraced.said(row)[4] for row in rows), faults) == (ALL, [])
         if len(writes) < number:
@@ -49,7 +49,7 @@ def test_each_record_has_one_row_wherever_collect_is_killed(folder: pathlib.Path
 def archive(folder: pathlib.Path) -> pathlib.Path:
     """The archives of a line whose three records are collected."""
     made = make_inbox(folder / "line")
-    untraced.collect(made)
+    collecting.collect(made)
     return made
 
 
@@ -63,7 +63,7 @@ def test_readers_and_collect_name_a_damage(archive: pathlib.Path, name: str) -> 
         file.write_bytes(DAMAGES[name](text))
     assert untraced.read(archive).faults
     with pytest.raises(plant.Fault):
-        untraced.collect(archive)
+        collecting.collect(archive)
     file.write_bytes(text)
     assert boards(archive) == ALL
 
@@ -80,9 +80,9 @@ def test_of_two_decisions_of_one_second_the_board_stays_in_recalls(
         for number in range(16):
             order = [became, untraced.SCRAPPED][:: 1 if number % 2 else -1]
             for word in order:
-                untraced.decide(archive, its[number % 3], f"P{number}", word, "seen")
+                collecting.decide(archive, its[number % 3], f"P{number}", word, "seen")
     waiting = untraced.decisions(untraced.read(archive).records)
-    untraced.collect(archive)
+    collecting.collect(archive)
     assert waiting == untraced.decisions(untraced.rows_of(archive)[0])
     assert [untraced.is_shipped(waiting[it]) for it in its] == [True] * 3
 
@@ -134,7 +134,7 @@ def expect_kept(archive: pathlib.Path, texts: dict[str, str]) -> None:
     number = 10 + len(untraced.read(archive).records)
     name, later = a_record(number)
     (untraced.inbox_of(archive) / f"{name}.json").write_bytes(later)
-    assert untraced.collect(archive)[2] == []
+    assert collecting.collect(archive)[2] == []
     book = untraced.read(archive)
     assert book.faults == [] and list(untraced.inbox_of(archive).glob("*.json")) == [
         untraced.inbox_of(archive) / untraced.COLLECTED
@@ -145,7 +145,7 @@ def expect_kept(archive: pathlib.Path, texts: dict[str, str]) -> None:
         said = untraced.said(record)
         assert all(it.isprintable() and len(it) < 2 * untraced.MOST_SAID for it in said)
         assert record in untraced.undecided(book.records) or not untraced.is_work(record)
-    untraced.write_status(archive, book.records)
+    collecting.write_status(archive, book.records)
     table = [[*untraced.said(it), it.text] for it in book.records]
     assert [*catalogue.csv_rows(catalogue.csv_text(table))] == table
 
@@ -169,7 +169,7 @@ def test_what_is_no_text_is_kept_too(archive: pathlib.Path, name: str) -> None:
 @pytest.mark.parametrize("name", NO_JSON)
 def test_what_is_no_json_is_named_and_ends_nothing(archive: pathlib.Path, name: str) -> None:
     file = untraced.inbox_of(archive) / f"m1~{put(archive, ANY.replace('ODD', NO_JSON[name]))}.json"
-    (fault,) = untraced.collect(archive)[2]
+    (fault,) = collecting.collect(archive)[2]
     assert f"{file}: " in fault and "move it away" in fault
     file.unlink()
     expect_kept(archive, {})
@@ -191,7 +191,9 @@ def test_a_link_or_a_pipe_in_the_inbox_is_no_record(archive: pathlib.Path) -> No
     (archive / "elsewhere").write_bytes(text)
     (inbox / f"{name}.json").symlink_to(archive / "elsewhere")
     os.mkfifo(inbox / f"{'0' * 32}.json")
-    assert len(untraced.collect(archive)[2]) == 2 and len(untraced.rows_of(archive)[0]) == len(ALL)
+    assert len(collecting.collect(archive)[2]) == 2 and len(untraced.rows_of(archive)[0]) == len(
+        ALL
+    )
 
 
 # --- Refused loads and splices

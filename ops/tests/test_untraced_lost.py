@@ -10,7 +10,7 @@ import pytest
 from lab.line import Line
 from lab.records import a_record
 from lab.tools import Ended, Word, run_tool
-from tracedesk_ops import untraced
+from tracedesk_ops import collecting, untraced
 
 pytestmark = pytest.mark.xdist_group("untraced_lost")
 
@@ -26,12 +26,12 @@ def refused(line: Line, number: int) -> str:
     """A desk refused the start of board B1, or of another number; its record has a row."""
     name, text = a_record(number)
     (line.folder / "untraced" / f"{name}.json").write_bytes(text)
-    untraced.collect(line.archive)
+    collecting.collect(line.archive)
     return name
 
 
 def decided(line: Line, record: str) -> None:
-    untraced.decide(line.archive, record, *PERSON)
+    collecting.decide(line.archive, record, *PERSON)
 
 
 def started(line: Line) -> None:

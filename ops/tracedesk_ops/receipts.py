@@ -12,7 +12,7 @@ import pathlib
 from collections.abc import Iterator
 
 from tracedesk import records
-from tracedesk_ops import attributes, untraced
+from tracedesk_ops import attributes, collecting
 
 FOLDER, FILES = "scans", "receipts-*.jsonl"
 TAKEN = "200"  # the status of the answer Accepted
@@ -57,7 +57,7 @@ class Receipts:
         """Fills the line's book from what came since the last call; how many rows are new."""
         ends = dict(self.read)
         found = [its for its in map(received, self.lines(ends)) if its]
-        count = attributes.fill(self.archive, found, untraced.now()) if found else 0
+        count = attributes.fill(self.archive, found, collecting.now()) if found else 0
         self.read = ends  # else they are read again
         return count
 

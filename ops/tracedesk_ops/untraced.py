@@ -18,16 +18,14 @@ from __future__ import annotations
 
 import contextlib
 import csv
-import datetime
 import hashlib
 import json
-import os
 import pathlib
 from collections.abc import Iterable
 from typing import Any, NamedTuple
 
 from tracedesk import records as sent
-from tracedesk_ops import catalogue, files, heads, inboxes, model, plant
+from tracedesk_ops import catalogue, files, heads, inboxes, model
 
 FILE_NAME, COLLECTED, STATUS = "untraced.csv", "collected.json", "untraced.json"
 HEADER = tuple(
@@ -371,116 +369,3 @@ def missing(archive: pathlib.Path, recorded: Iterable[str]) -> list[str]:
         return [f"{heads.lacked_by(path)}{more}"] if lost(archive, recorded) else []
     except OSError as fault:
         return [f"{path}: it can't be read: {fault}. Take it from a copy"]
-
-
-# --- Writing
-
-
-def collect(archive: pathlib.Path) -> tuple[list[Record], int, list[str]]:
-    """Appends what is in the inbox to the line's file. Returns its records, how many are new, and
-    what is wrong in the inbox; a Fault where the file is damaged.
-    """
-    archive = pathlib.Path(archive)
-    with files.held(archive):
-        records, faults = rows_of(archive)
-        inbox, path = inbox_of(archive), archive / FILE_NAME
-        if faults and not (records and not collected_in(inbox)[0] and inbox.is_dir()):
-            raise plant.Fault(faults[0])
-        waiting = waiting_in(inbox)
-        known = {it.id for it in records}
-        new = [it for name, it in waiting.records.items() if name not in known]
-        if new:
-            append(path, records, new)
-            plant.reached("appended")
-        if new or len(records) != collected_in(inbox)[0]:
-            records += new
-            note(inbox, records)
-            plant.reached("noted")
-        for file in waiting.files:
-            file.unlink(missing_ok=True)
-        return records, len(new), [*waiting.faults, *inboxes.limit(inbox)]
-
-
-def place_of(inbox: pathlib.Path, record: Record) -> pathlib.Path:
-    """Where a record waits."""
-    folder = inbox.parent / inboxes.DECIDED if record.told["Kind"] == "decided" else inbox
-    return folder / f"{record.id}.json"
-
-
-def append(path: pathlib.Path, records: list[Record], new: list[Record]) -> None:
-    """Writes the rows of new records behind those that are there, and waits until they are on disk.
-    What a killed call left of a row goes.
-    """
-    before = BEGIN
-    for it in records:
-        before = chained(before, it)
-    rows: list[Iterable[str]] = []
-    if not records and not (
-        path.exists() and path.read_bytes().startswith(",".join(HEADER).encode() + b"\n")
-    ):
-        rows.append(HEADER)
-    for it in new:
-        before = chained(before, it)
-        rows.append(row_of(it, before))
-    with open(path, "a+b") as file:
-        file.seek(0)
-        kept = file.read()
-        file.truncate(kept.rfind(b"\n") + 1)
-        file.write(catalogue.csv_text(rows).encode())
-        file.flush()
-        os.fsync(file.fileno())
-    files.keep(path.parent)
-
-
-def note(inbox: pathlib.Path, records: list[Record]) -> None:
-    chain = BEGIN
-    for it in records:
-        chain = chained(chain, it)
-    files.put(inbox / COLLECTED, json.dumps({"Rows": len(records), "Chain": chain}) + "\n", 0o644)
-
-
-def now() -> str:
-    return f"{datetime.datetime.now(datetime.timezone.utc):%Y-%m-%dT%H:%M:%SZ}"
-
-
-def decide(archive: pathlib.Path, of: str, by: str, became: str, reason: str) -> Record:
-    """Puts a decision about a record, or about lost rows, into the inbox and collects it. Returns
-    its record.
-    """
-    told = {
-        "At": now(),
-        "Became": became,
-        "By": by,
-        "Kind": "decided",
-        "Of": of,
-        "Reason": reason,
-        "Version": 1,
-    }
-    record = record_of(json.dumps(told, sort_keys=True, separators=(",", ":")).encode() + b"\n")
-    place = place_of(inbox_of(archive), record)
-    place.parent.mkdir(exist_ok=True)
-    files.put(place, record.text + "\n", 0o644)
-    collect(archive)
-    return record
-
-
-def shown(record: Record) -> dict[str, Any]:
-    """What a screen shows of a record about which nobody decided."""
-    row = said(record)
-    names = ("Id", "At", "Machine", "Board", "MessageName", "Refusal", "Place")
-    found = dict(zip(names, [row[0], *row[2:5], f"TraceDesk.{word_of(record)}", *row[6:8]]))
-    more = ("DeskReel", "Designators") if record.told["Kind"] == "differs" else ()
-    return {**found, **{name: record.told[name] for name in more}}
-
-
-def write_status(folder: pathlib.Path, records: list[Record]) -> None:
-    """Writes what the station's screens read: what is undecided, and the ids of what was decided
-    last.
-    """
-    told = {
-        "At": now(),
-        "Decided": list(decisions(records))[-MOST_DECIDED:],
-        "Undecided": [shown(record) for record in undecided(records)],
-        "Version": 1,
-    }
-    files.put(pathlib.Path(folder) / STATUS, json.dumps(told) + "\n", 0o644)

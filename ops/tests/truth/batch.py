@@ -11,7 +11,7 @@ from unittest import mock
 
 from lab.tools import Ended, run_tool
 from tracedesk import desk as desks
-from tracedesk_ops import catalogue, chains, doubtful, firstlook, untraced
+from tracedesk_ops import catalogue, chains, collecting, doubtful, firstlook, untraced
 from tracedesk_ops.firstlook import Line, Question, ReelLeft
 from tracedesk_ops.recalls.desk import Desk
 from tracedesk_ops.recalls.recall import Recall
@@ -170,7 +170,7 @@ class Batch:
         for kill in [self.random.randint(0, 25)] * (self.random.random() < 0.3) + [None]:
             Killer.left = kill
             with contextlib.suppress(Killed):
-                untraced.collect(self.place.archive)
+                collecting.collect(self.place.archive)
             Killer.left = None
 
     # --- What recalls say

@@ -31,9 +31,8 @@ import csv
 import io
 import pathlib
 
-from tracedesk_ops import around, attributes, books, catalogue, model, options, places, plant
-from tracedesk_ops import reader_of
-from tracedesk_ops import untraced
+from tracedesk_ops import around, attributes, books, catalogue, collecting, model, options
+from tracedesk_ops import places, plant, reader_of
 from tracedesk_ops.line import LineFolder
 from tracedesk_ops.recalls import sets
 from tracedesk_ops.sealed import FilesFault
@@ -66,7 +65,7 @@ def add(asked: argparse.Namespace) -> int:
     except (OSError, UnicodeDecodeError, csv.Error, ValueError) as fault:
         plant.tell(f"{asked.file}: {fault}")
         return BAD
-    count = attributes.add(asked.archive, new, untraced.now(), asked.by)
+    count = attributes.add(asked.archive, new, collecting.now(), asked.by)
     books.record(asked.archive)  # else tracedesk-untraced does, and each start
     plant.tell(f"{count} of {len(new)} reels are new or have other attributes than before")
     return DONE

@@ -42,9 +42,8 @@ import argparse
 import pathlib
 import time
 
-from tracedesk_ops import around, books, catalogue, options, model, places, plant, reader_of
-from tracedesk_ops import receipts
-from tracedesk_ops import untraced
+from tracedesk_ops import around, books, catalogue, collecting, model, options, places, plant
+from tracedesk_ops import reader_of, receipts, untraced
 from tracedesk_ops.line import LineFolder
 from tracedesk_ops.sealed import FilesFault
 
@@ -56,7 +55,7 @@ def collect(asked: argparse.Namespace) -> int:
         status = 0
         try:
             asked.archive.mkdir(mode=0o755, exist_ok=True)
-            records, count, wrong = untraced.collect(asked.archive)
+            records, count, wrong = collecting.collect(asked.archive)
             for fault in wrong:
                 plant.tell(fault)
             if count:
@@ -88,7 +87,7 @@ def record_heads(asked: argparse.Namespace) -> None:
 def tell_station(asked: argparse.Namespace, records: list[untraced.Record]) -> None:
     folder = asked.archive.with_name(model.STATUS)
     if folder.is_dir():
-        untraced.write_status(folder, records)
+        collecting.write_status(folder, records)
 
 
 def show(asked: argparse.Namespace) -> int:
@@ -113,9 +112,9 @@ def show(asked: argparse.Namespace) -> int:
 
 def decide(asked: argparse.Namespace) -> int:
     try:
-        records, _, _ = untraced.collect(asked.archive)
+        records, _, _ = collecting.collect(asked.archive)
         for it in ids_of(asked, records):
-            untraced.decide(asked.archive, it, asked.by, asked.became, asked.reason)
+            collecting.decide(asked.archive, it, asked.by, asked.became, asked.reason)
         tell_station(asked, untraced.read(asked.archive).records)
         return 0
     except (plant.Fault, OSError, ValueError) as fault:

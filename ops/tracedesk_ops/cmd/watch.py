@@ -48,23 +48,13 @@ from collections.abc import Callable, Generator, Iterator
 from typing import Any
 
 from tracedesk import words as reports
-from tracedesk_ops import (
-    asking,
-    files,
-    options,
-    model,
-    places,
-    plant,
-    reader_of,
-    sealed_watch,
-    untraced,
-)
+from tracedesk_ops import asking, files, metrics, model, options, places, plant
+from tracedesk_ops import reader_of, sealed_watch, untraced
 
 TO = pathlib.Path("/run/tracedesk-watch/metrics")
 SETUP = pathlib.Path("/etc/tracedesk/station/setup.json")
 CLOCK = pathlib.Path("/run/tracedesk-clock/answer.json")  # ops/tracedesk-clock writes it
 HEALTH = "https://127.0.0.1/health"
-BYTES_A_PIECE = 120  # of a desk's file: docs/figures.md, "A file's start and memory by its pieces"
 SECONDS_FOR_A_FILE, SECONDS_FOR_NGINX = 10, 15  # packaging/nginx.conf waits less for the desk
 ANSWERS = 3  # all of them together take as long as so many that take the longest
 FAULTS = (
@@ -79,41 +69,6 @@ FAULTS = (
     subprocess.SubprocessError,
     csv.Error,
 )
-METRICS = f"""\
-tracedesk_up gauge 1 where the desk answered a GET on its port in the time given, else 0.
-tracedesk_get_seconds gauge Seconds of that GET, with its wait behind other requests. None where it had no answer.
-tracedesk_proxy_up gauge 1 where nginx answered /health over TLS, whatever it said, else 0.
-tracedesk_drained gauge 1 while senders are told to come again, for a copy or a roll-over, else 0.
-tracedesk_service_active gauge 1 where systemd calls the service active, also while it reads its file, else 0.
-tracedesk_service_restarts_total counter How often systemd started the service again by itself (NRestarts).
-tracedesk_overdue_pieces gauge Pieces that were placed past their floor life: rows of the report /overdue.
-tracedesk_least_floor_life_seconds gauge Least floor life left of a reel on the machine, whole minutes as of the desk minute, by the report /slots. None where no reel there has a limit.
-tracedesk_least_slot_pieces gauge Fewest pieces on a slot of the machine, by the report /slots. 0 where a slot of the sheet that setup.json names has none, by /kit.
-tracedesk_file_bytes gauge Size of the desk's file without its log.
-tracedesk_log_bytes gauge Size of the log beside the desk's file.
-tracedesk_disk_free_bytes gauge Bytes free on the disk of the desk's file.
-tracedesk_pieces_estimate gauge An estimate of the placed pieces: tracedesk_file_bytes at {BYTES_A_PIECE} bytes a piece.
-tracedesk_next_start_estimate_seconds gauge An estimate of how long the next start takes: tracedesk_pieces_estimate at {plant.SECONDS_A_MILLION} seconds a million.
-tracedesk_backup_timestamp_seconds gauge When the desk was sealed last, by the file's time.
-tracedesk_backup_commands gauge Accepted commands in the newest sealed file.
-tracedesk_backup_pieces gauge Placed pieces in the newest sealed file, by its tables.
-tracedesk_rollover_timestamp_seconds gauge Minute of the last command of the file from which the running desk began.
-tracedesk_archive_commands gauge Accepted commands of all files from which a desk was begun.
-tracedesk_archive_pieces gauge Placed pieces of all files from which a desk was begun.
-tracedesk_clock_timestamp_seconds gauge Minute of the last ClockSet of the idle clock that the desk accepted.
-tracedesk_clock_commands gauge Accepted commands of the desk at that moment: the Number in its answer.
-tracedesk_sender_waiting gauge Messages that wait at the sender, by its status.
-tracedesk_sender_aside gauge Messages that the sender has set aside, by its status.
-tracedesk_sender_oldest_waiting_timestamp_seconds gauge When the oldest message that waits came to the sender, by its status. None where none waits.
-tracedesk_sender_timestamp_seconds gauge When the sender wrote its status.
-tracedesk_interlock_go gauge 1 where the sender's interlock lets the machine go, 0 where it stops it, by its status.
-tracedesk_untraced_undecided gauge Refused reports of work about which nobody decided, by what tracedesk-untraced collect wrote last.
-tracedesk_untraced_timestamp_seconds gauge When tracedesk-untraced collect wrote that.
-tracedesk_watch_source_up gauge 1 where all of this source could be read for this file, else 0, and metrics of it are missing.
-tracedesk_watch_timestamp_seconds gauge When this file was written.
-"""
-Sample = tuple[str, float, dict[str, str]]  # a metric without `tracedesk_`, its value and labels
-Samples = Iterator[Sample]
 
 
 @contextlib.contextmanager
@@ -165,7 +120,7 @@ class Watch:
         self.is_up = False
         self.sealed = asked.db.with_name(model.SEALED)
 
-    def tried(self, name: str, source: Samples) -> Generator[Sample, None, bool]:
+    def tried(self, name: str, source: metrics.Samples) -> Generator[metrics.Sample, None, bool]:
         """The samples of a source, and whether it gave all; else the reason is told."""
         try:
             yield from source
@@ -174,7 +129,7 @@ class Watch:
             plant.tell(f"{name}: {str(fault) or repr(fault)}")
             return False
 
-    def whole(self) -> Samples:
+    def whole(self) -> metrics.Samples:
         """All samples of this moment."""
         self.is_up = yield from self.tried("the desk", self.answers())
         yield "up", int(self.is_up), {}
@@ -194,12 +149,12 @@ class Watch:
             yield "watch_source_up", int(is_whole), {"source": name}
         yield "watch_timestamp_seconds", round(time.time(), 3), {}
 
-    def answers(self) -> Samples:
+    def answers(self) -> metrics.Samples:
         began = time.monotonic()
         self.desk.rows("/reel", reel="-")  # one that hardly a plant has
         yield "get_seconds", round(time.monotonic() - began, 6), {}
 
-    def proxy(self) -> Samples:
+    def proxy(self) -> metrics.Samples:
         """Whether nginx answers. It is on this machine, so its certificate is not looked at."""
         url = urllib.parse.urlsplit(self.asked.health)
         trust = ssl.SSLContext(ssl.PROTOCOL_TLS_CLIENT)
@@ -210,7 +165,7 @@ class Watch:
             link.getresponse().read()
         yield from ()
 
-    def reports(self) -> Samples:
+    def reports(self) -> metrics.Samples:
         """What is overdue, and of each machine what ends first."""
         if not self.is_up:
             raise plant.Fault("the desk is not asked for them: it is down")
@@ -218,7 +173,7 @@ class Watch:
         for machine, product in machines_of(self.asked.setup):
             yield from self.machine(machine, product)
 
-    def machine(self, machine: str, product: str | None) -> Samples:
+    def machine(self, machine: str, product: str | None) -> metrics.Samples:
         slots: list[reports.SlotRow] = self.desk.rows("/slots", machine=machine) or []
         kit: list[reports.KitRow] = []
         if product:
@@ -234,7 +189,7 @@ class Watch:
 
     # --- What no route tells
 
-    def service(self) -> Samples:
+    def service(self) -> metrics.Samples:
         unit = self.asked.unit
         done = subprocess.run(
             ["systemctl", "show", "--property=ActiveState,NRestarts,LoadState", unit],
@@ -250,10 +205,10 @@ class Watch:
         yield "service_active", int(told["ActiveState"] == "active"), {}
         yield "service_restarts_total", int(told["NRestarts"]), {}
 
-    def file(self) -> Samples:
+    def file(self) -> metrics.Samples:
         """The size of the desk's file and what follows from it; no file is opened."""
         size, log = os.stat(self.asked.db).st_size, f"{self.asked.db}-wal"
-        pieces = size // BYTES_A_PIECE
+        pieces = size // metrics.BYTES_A_PIECE
         seconds = round(pieces * plant.SECONDS_A_MILLION / 1_000_000, 3)
         yield "file_bytes", size, {}
         yield "log_bytes", os.stat(log).st_size if is_there(log) else 0, {}
@@ -261,26 +216,26 @@ class Watch:
         yield "pieces_estimate", pieces, {}
         yield "next_start_estimate_seconds", seconds, {}
 
-    def backup(self) -> Samples:
+    def backup(self) -> metrics.Samples:
         """The newest sealed file; one of the future is none to trust."""
         if is_there(self.sealed):
             with within(SECONDS_FOR_A_FILE):
                 has = self.desk.has if self.is_up else lambda _: True
                 yield from sealed_watch.newest(self.sealed, has)
 
-    def archive(self) -> Samples:
+    def archive(self) -> metrics.Samples:
         has = self.desk.has if self.is_up else lambda _: False
         if is_there(self.sealed):
             yield from sealed_watch.archives(self.sealed, has)
 
-    def clock(self) -> Samples:
+    def clock(self) -> metrics.Samples:
         """The answer that the idle clock had last, if one is switched on."""
         if told := read_if_there(self.asked.clock):
             second = second_of(told["UniqueID"], "clock-%Y-%m-%dT%H:%MZ")
             yield "clock_timestamp_seconds", second, {}
             yield "clock_commands", int(told["Number"]), {}
 
-    def status(self) -> Samples:
+    def status(self) -> metrics.Samples:
         """What each sender says of itself, and what is undecided. One that can't be read doesn't
         hide the others.
         """
@@ -296,7 +251,7 @@ class Watch:
             raise plant.Fault("; ".join(spoilt))
 
 
-def said_by(name: str, told: dict[str, Any]) -> Samples:
+def said_by(name: str, told: dict[str, Any]) -> metrics.Samples:
     """What the status of a sender, or that of tracedesk-untraced, says."""
     if name == untraced.STATUS:
         yield "untraced_undecided", len(told["Undecided"]), {}
@@ -329,36 +284,8 @@ def machines_of(path: pathlib.Path) -> list[tuple[str, str | None]]:
         ) from fault
 
 
-# --- The file
-
-
-def text_of(samples: Samples) -> str:
-    """The samples in the text format of Prometheus, each metric's together."""
-    found: dict[str, list[str]] = {}
-    for name, value, labels in samples:
-        lines = found.setdefault(f"tracedesk_{name}", [])
-        lines.append(f"tracedesk_{name}{labels_of(labels)} {value}\n")
-    text = ""
-    for row in METRICS.splitlines():
-        name, kind, about = row.split(" ", 2)
-        if name in found:
-            text += f"# HELP {name} {about}\n# TYPE {name} {kind}\n{''.join(found[name])}"
-    return text
-
-
-def labels_of(labels: dict[str, str]) -> str:
-    escaped = str.maketrans({"\\": r"\\", '"': r"\"", "\n": r"\n"})
-    texts = {name: it.encode("utf-8", "replace").decode() for name, it in labels.items()}
-    written = [f'{name}="{text.translate(escaped)}"' for name, text in texts.items()]
-    return f"{{{','.join(written)}}}" if written else ""
-
-
-def words() -> argparse.Namespace:
-    reader = reader_of(__doc__)
-    reader.add_argument("--list", action="store_true", help="print the metrics")
-    reader.add_argument(
-        "--to", metavar="FILE", default=str(TO), help=f"the file that is written, or - ({TO})"
-    )
+def offer_places(reader: argparse.ArgumentParser) -> None:
+    """Adds the words that say where everything is."""
     reader.add_argument(
         "--port",
         type=int,
@@ -372,30 +299,28 @@ def words() -> argparse.Namespace:
     reader.add_argument(
         "--unit", default="tracedesk", metavar="NAME", help="the service (tracedesk)"
     )
+    for name, default, what in (
+        ("setup", SETUP, "the machines"),
+        ("db", places.DESK, "the desk's file, in the line's folder"),
+        ("clock", CLOCK, "the idle clock's last answer"),
+        ("drained", options.DRAINED, "senders are sent away while it is there"),
+    ):
+        reader.add_argument(
+            f"--{name}",
+            type=pathlib.Path,
+            default=default,
+            metavar="FILE",
+            help=f"{what} ({default})",
+        )
+
+
+def words() -> argparse.Namespace:
+    reader = reader_of(__doc__)
+    reader.add_argument("--list", action="store_true", help="print the metrics")
     reader.add_argument(
-        "--setup", type=pathlib.Path, default=SETUP, metavar="FILE", help=f"the machines ({SETUP})"
+        "--to", metavar="FILE", default=str(TO), help=f"the file that is written, or - ({TO})"
     )
-    reader.add_argument(
-        "--db",
-        type=pathlib.Path,
-        default=places.DESK,
-        metavar="FILE",
-        help=f"the desk's file, in the line's folder ({places.DESK})",
-    )
-    reader.add_argument(
-        "--clock",
-        type=pathlib.Path,
-        default=CLOCK,
-        metavar="FILE",
-        help=f"the idle clock's last answer ({CLOCK})",
-    )
-    reader.add_argument(
-        "--drained",
-        type=pathlib.Path,
-        default=options.DRAINED,
-        metavar="FILE",
-        help=f"senders are sent away while it is there ({options.DRAINED})",
-    )
+    offer_places(reader)
     reader.add_argument(
         "--timeout",
         type=float,
@@ -414,7 +339,7 @@ def words() -> argparse.Namespace:
 
 def main() -> int:
     asked = words()
-    text = METRICS if asked.list else text_of(Watch(asked).whole())
+    text = metrics.METRICS if asked.list else metrics.text_of(Watch(asked).whole())
     if asked.list or asked.to == "-":
         sys.stdout.write(text)
         return 0
