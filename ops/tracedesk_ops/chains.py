@@ -184,14 +184,19 @@ def in_turn(
                 raise
             options.append(str(fault))
     ends = [end for _, its in runs for end in its.ends]
+    want_links(files, digits, ends)
+    rows = [{**row, "file": first + row["file"]} for first, its in runs for row in its.rows]
+    printed = runs[0][1].printed[:1] + [text for _, its in runs for text in its.printed[1:]]
+    return Answer(rows, ends, printed, options)
+
+
+def want_links(files: Files, digits: Digits, ends: Sequence[End]) -> None:
+    """A NoAnswer if a file doesn't name the one before it."""
     for before, named, file, end in zip(files, digits, files[1:], ends[1:]):
         if end.mark != named:
             raise NoAnswer(
                 f"{file.name} doesn't say that it was begun from {before.name}", NO_CHAIN
             )
-    rows = [{**row, "file": first + row["file"]} for first, its in runs for row in its.rows]
-    printed = runs[0][1].printed[:1] + [text for _, its in runs for text in its.printed[1:]]
-    return Answer(rows, ends, printed, options)
 
 
 def asked_of(
@@ -251,22 +256,16 @@ def said_of(run: plant.Program, words: list[str], files: Files, progress: parts.
             **run.how,
         ) as running:
             for line in running.stderr or ():
-                found = FILE.fullmatch(line.strip())
-                if not found:
+                if found := FILE.fullmatch(line.strip()):
+                    minute = int(found[3]) if found[3] != "none" else 0
+                    ends.append(End(int(found[2]), minute, found[4] or ""))
+                    progress.of(os.stat(found[1]).st_size)
+                else:
                     errors.append(folders.sub("", line.strip().partition(": ")[2]))
-                    continue
-                ends.append(
-                    End(int(found[2]), int(found[3]) if found[3] != "none" else 0, found[4] or "")
-                )
-                progress.of(os.stat(found[1]).st_size)
         out.seek(0)
         printed = list(records(out))
-    if running.returncode:
-        raise NoAnswer(
-            "; ".join(errors) or f"it ended with status {running.returncode}",
-            running.returncode,
-            ends,
-        )
+    if status := running.returncode:
+        raise NoAnswer("; ".join(errors) or f"it ended with status {status}", status, ends)
     header, *rows = [fields for fields, _ in printed] or [[]]
     if ",".join(header) != (CHECKED if words[0] == "check" else PIECES) or len(ends) != len(files):
         raise NoAnswer(

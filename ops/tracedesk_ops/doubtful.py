@@ -75,10 +75,8 @@ def look(
     is_running: bool = False,
     has: Has | None = None,
 ) -> Doubts:
-    """Looks at what is around a line's files. The archives are in the order of their chain. If a
-    desk runs, its file in the folder is read too; `has` says whether the running desk has a
-    UniqueID, or None.
-    """
+    """Looks at what is around a line's files; the archives are in the order of their chain. The
+    file of a desk that runs is read too; `has` says whether it has a UniqueID, or None."""
     archive = LineFolder(folder).sealed
     book = untraced.read(archive)
     refused, decided = untraced.refused(book.records), untraced.decisions(book.records)
@@ -90,9 +88,9 @@ def look(
     faults: list[str] = []
     try:
         with contextlib.ExitStack() as held:
-            files: dict[str, Opener] = {  # one archive is open at a time: there may be many
-                it.file: functools.partial(catalogue.unchanged, folder, it) for it in archives
-            }
+            # one archive is open at a time: there may be many
+            at = ((it.file, functools.partial(catalogue.unchanged, folder, it)) for it in archives)
+            files: dict[str, Opener] = dict(at)
             if is_running:
                 copy, why = running_file(LineFolder(folder).desk, archives, has, held)
                 files |= {catalogue.RUNNING: held_open(copy)} if copy else {}

@@ -61,31 +61,32 @@ class Service:
         end = time.monotonic() + self.drain_seconds
         while self.requests() and time.monotonic() < end:
             time.sleep(0.05)
-        met, quiet, end = (
-            connections(self.port)[1],
-            time.monotonic(),
-            time.monotonic() + self.drain_seconds,
+        if self.is_quiet():
+            return
+        told = f"after {self.drain_seconds:g} seconds somebody still sends to port {self.port}"
+        if gives_up:
+            raise Fault(
+                f"{told}: stop that sender, or let it send through the proxy; or wait longer, by"
+                " --drain-seconds"
+            )
+        tell(
+            f"{told}; the service is stopped nevertheless, and the sender has to send again what it"
+            " has no answer to"
         )
+
+    def is_quiet(self) -> bool:
+        """Waits until nobody has sent for a while; whether that comes in time."""
+        met, quiet = connections(self.port)[1], time.monotonic()
+        end = quiet + self.drain_seconds
         while time.monotonic() - quiet < QUIET:
             connected, those = connections(self.port)
             if connected or those - met:
                 quiet = time.monotonic()
             met |= those
             if time.monotonic() > end:
-                told = (
-                    f"after {self.drain_seconds:g} seconds somebody still sends to port {self.port}"
-                )
-                if gives_up:
-                    raise Fault(
-                        f"{told}: stop that sender, or let it send through the proxy; or wait"
-                        " longer, by --drain-seconds"
-                    )
-                tell(
-                    f"{told}; the service is stopped nevertheless, and the sender has to send again"
-                    " what it has no answer to"
-                )
-                return
+                return False
             time.sleep(0.05)
+        return True
 
     def requests(self) -> int:
         """How many requests the proxy has that it may still hand to the desk: it tells those that

@@ -228,22 +228,13 @@ def words(given: list[str] | None = None) -> argparse.Namespace:
     """What the command line asks for; it ends where it can't be followed."""
     reader = reader_of(__doc__)
     reader.add_argument("reel", metavar="REEL", help="its name at the old desk")
-    reader.add_argument(
-        "--from",
-        dest="old",
-        required=True,
-        type=pathlib.Path,
-        metavar="OLD",
-        help="the desk's file that it leaves, a copy, or its line's folder",
-    )
-    reader.add_argument(
-        "--to",
-        dest="new",
-        required=True,
-        type=pathlib.Path,
-        metavar="NEW",
-        help="the one that it comes to, in the same way",
-    )
+    for option, its, about in (
+        ("--from", "old", "the desk's file that it leaves, a copy, or its line's folder"),
+        ("--to", "new", "the one that it comes to, in the same way"),
+    ):
+        reader.add_argument(
+            option, dest=its, required=True, type=pathlib.Path, metavar=its.upper(), help=about
+        )
     reader.add_argument(
         "--as",
         dest="called",

@@ -102,57 +102,56 @@ def waits(before: int) -> str:
     return f"Waits behind {view.count(before, 'other')}" if before else "Is next"
 
 
-def make(folder: pathlib.Path) -> flask.Flask:
-    """The application over the queue in a folder."""
-    app = flask.Flask("tracedesk-recall-page", static_folder=None, template_folder=None)
-    app.config["MAX_CONTENT_LENGTH"] = MOST_BYTES
-    queue = Queue(folder)
+def reader() -> str:
+    """Who asks, as the proxy says."""
+    name = flask.request.headers.get(READER, "")
+    if not name:
+        flask.abort(403)
+    return name
 
-    def reader() -> str:
-        name = flask.request.headers.get(READER, "")
-        if not name:
-            flask.abort(403)
-        return name
 
-    def form(refused: str, status: int, values: "dict[str, str]") -> tuple[str, int]:
+class Site:
+    """The pages over a queue."""
+
+    def __init__(self, queue: Queue) -> None:
+        self.queue = queue
+
+    def form(self, refused: str, status: int, values: "dict[str, str]") -> tuple[str, int]:
         jobs = [
             {"name": job.name, "title": title_of(question), "reader": question.reader}
-            | {"at": question.at, "state": state_of(queue, job)}
-            for job, question in queue.questions(reversed(queue.all()[-MOST_SHOWN:]))
+            | {"at": question.at, "state": state_of(self.queue, job)}
+            for job, question in self.queue.questions(reversed(self.queue.all()[-MOST_SHOWN:]))
         ]
         asked = {name: values.get(name, "") for name in ("kind", "names", "part")}
         its = {"refused": refused, "kinds": KIND_TEXTS, "asked": asked, "jobs": jobs}
         return pages.page(pages.FORM, "Recall", its), status
 
-    def job_of(name: str) -> Job:
-        return queue.job(name) or flask.abort(404)
-
-    @app.get("/recall/")
-    def ask() -> tuple[str, int]:
+    def job_of(self, name: str) -> Job:
         reader()
-        return form("", 200, {})
+        return self.queue.job(name) or flask.abort(404)
 
-    @app.post("/recall/")
-    def take() -> "flask.typing.ResponseReturnValue":
+    def ask(self) -> tuple[str, int]:
+        reader()
+        return self.form("", 200, {})
+
+    def take(self) -> "flask.typing.ResponseReturnValue":
         who, values = reader(), flask.request.form.to_dict()
         upload = flask.request.files.get("shipped")
         shipped = upload.read() if upload else b""
         try:
-            job = queue.add(asked_in(values, who, bool(shipped)), shipped)
+            job = self.queue.add(asked_in(values, who, bool(shipped)), shipped)
         except NoQuestion as fault:
-            return form(str(fault), 400, values)
+            return self.form(str(fault), 400, values)
         except Full as fault:
-            return form(str(fault), 429, values)
+            return self.form(str(fault), 429, values)
         return flask.redirect(f"/recall/{job.name}/", 303)
 
-    @app.get("/recall/<name>/")
-    def show(name: str) -> str:
-        reader()
-        job = job_of(name)
+    def show(self, name: str) -> str:
+        job = self.job_of(name)
         ended = job.ended
         title = title_of(job.asked)
         if ended is None:
-            return waiting(job, title)
+            return self.waiting(job, title)
         if not job.evidence.is_dir():
             said = ended.get("why", "") or job.said
             headline, lines = view.without_answer(int(ended["status"]), said)
@@ -164,44 +163,55 @@ def make(folder: pathlib.Path) -> flask.Flask:
         its |= {"downloads": there, "lacking": lacking}
         return pages.page(pages.JOB, title, its)
 
-    def waiting(job: Job, title: str) -> str:
-        before = queue.place(job)
+    def waiting(self, job: Job, title: str) -> str:
+        before = self.queue.place(job)
         read = [its[1] for its in map(PROGRESS.fullmatch, job.said.splitlines()) if its]
         progress = readable(read[-1].partition(": ")[2]) if read else ""
         state = "The archives are being read." if job.is_running else f"{waits(before)}."
         its = {"state": state, "progress": progress}
         return pages.page(pages.WAIT, title, its, SECONDS_UNTIL_AGAIN)
 
-    @app.get("/recall/<name>/<file>")
-    def download(name: str, file: str) -> flask.Response:
-        reader()
-        job = job_of(name)
+    def download(self, name: str, file: str) -> flask.Response:
+        job = self.job_of(name)
         if file not in papers.FILES or not (job.folder / file).is_file() or job.ended is None:
             flask.abort(404)
         path, called = job.folder.resolve() / file, f"recall-{job.name}-{file}"
         return flask.send_file(path, as_attachment=file != papers.PDF, download_name=called)
 
-    @app.get("/recall/page.css")
-    def style() -> flask.Response:
-        return flask.Response(pages.CSS, mimetype="text/css")
 
-    @app.errorhandler(HTTPException)
-    def wrong(fault: HTTPException) -> tuple[str, int]:
-        texts = {
-            403: "This log-in may not recall.",
-            404: "There is no such page.",
-            413: "The file is too large.",
-        }
-        status = fault.code or 500
-        text = texts.get(status, "That can't be done.")
-        return pages.page(pages.WORD, "Recall", {"text": text}), status
+def style() -> flask.Response:
+    return flask.Response(pages.CSS, mimetype="text/css")
 
-    @app.after_request
-    def guard(response: flask.Response) -> flask.Response:
-        response.headers["Content-Security-Policy"] = POLICY
-        response.headers["X-Content-Type-Options"] = "nosniff"
-        response.headers["Referrer-Policy"] = "same-origin"  # else Origin is null
-        response.headers["Cache-Control"] = "no-store"
-        return response
 
+def wrong(fault: HTTPException) -> tuple[str, int]:
+    texts = {
+        403: "This log-in may not recall.",
+        404: "There is no such page.",
+        413: "The file is too large.",
+    }
+    status = fault.code or 500
+    text = texts.get(status, "That can't be done.")
+    return pages.page(pages.WORD, "Recall", {"text": text}), status
+
+
+def guard(response: flask.Response) -> flask.Response:
+    response.headers["Content-Security-Policy"] = POLICY
+    response.headers["X-Content-Type-Options"] = "nosniff"
+    response.headers["Referrer-Policy"] = "same-origin"  # else Origin is null
+    response.headers["Cache-Control"] = "no-store"
+    return response
+
+
+def make(folder: pathlib.Path) -> flask.Flask:
+    """The application over the queue in a folder."""
+    app = flask.Flask("tracedesk-recall-page", static_folder=None, template_folder=None)
+    app.config["MAX_CONTENT_LENGTH"] = MOST_BYTES
+    site = Site(Queue(folder))
+    app.get("/recall/")(site.ask)
+    app.post("/recall/")(site.take)
+    app.get("/recall/<name>/")(site.show)
+    app.get("/recall/<name>/<file>")(site.download)
+    app.get("/recall/page.css")(style)
+    app.errorhandler(HTTPException)(wrong)
+    app.after_request(guard)
     return app

@@ -104,10 +104,20 @@ def page(recall: Recall, tables: dict[str, Table], shipped: Shipped | None, vers
     """One page: the question, whether all were asked, the boards, what is left of the reels, and
     who was asked.
     """
-    kind = recall.question.kind
     title = html.escape(title_of(recall.question))
-    asked, missing = len(recall.asked), sum(1 for it in recall.asked if it.why)
-    head = f'<p class="whole">All were asked: {asked} desks and archives.</p>'
+    sections = sections_of(recall, tables, shipped)
+    body = "".join(f"<h2>{html.escape(text)}</h2>{html_table(table)}" for text, table in sections)
+    return f"""<!DOCTYPE html>
+<html lang="en"><head><meta charset="utf-8"><title>{title}</title><style>{STYLE}</style></head><body>
+<h1>{title}</h1><p>Asked at {recall.minute:%Y-%m-%d %H:%M} UTC, of the lines {html.escape(', '.join(it.name for it in recall.lines))}. {html.escape(version)}</p>
+{head_of(recall)}{listed(recall.notes)}{body}
+</body></html>
+"""
+
+
+def head_of(recall: Recall) -> str:
+    """What a reader has to see first: whether the answer may lack something."""
+    head = f'<p class="whole">All were asked: {len(recall.asked)} desks and archives.</p>'
     if recall.faults or recall.breaks:
         head = (
             '<div class="missing">NOT ALL WERE ASKED, or the archives are no chain. The answer may'
@@ -120,38 +130,28 @@ def page(recall: Recall, tables: dict[str, Table], shipped: Shipped | None, vers
             '<div class="missing">WORK WAS DONE ALTHOUGH A DESK REFUSED IT: its pieces are in no'
             f' trace. See "Untraced work", {len(undecided)} undecided.</div>'
         )
-    sections = [
-        (f"Boards: {len(tables['boards']) - 1}, with {len(recall.pieces)} pieces", tables["boards"])
-    ]
+    return head
+
+
+def sections_of(
+    recall: Recall, tables: dict[str, Table], shipped: Shipped | None
+) -> list[tuple[str, Table]]:
+    """The tables of the page, each with its title."""
+    boards, is_board = tables["boards"], recall.question.kind == "board"
+    found = [(f"Boards: {len(boards) - 1}, with {len(recall.pieces)} pieces", boards)]
     if shipped is not None:
-        sections.append(("Shipped", customers(tables["boards"])))
-    sections.append(
-        ("Pieces", tables["pieces"])
-        if kind == "board"
-        else ("In stock or mounted", tables["reels"])
-    )
-    if recall.doubtful:
-        sections.append(
-            (
-                f"Doubtful pieces: {len(recall.doubtful)}, which may have come from another reel",
-                tables["doubtful"],
-            )
-        )
-    if recall.untraced:
-        sections.append(
-            (
-                f"Untraced work: {len(recall.undecided())} undecided of {len(recall.untraced)}",
-                tables["untraced"],
-            )
-        )
-    sections.append((f"Asked: {asked - missing} of {asked}", tables["asked"]))
-    body = "".join(f"<h2>{html.escape(text)}</h2>{html_table(table)}" for text, table in sections)
-    return f"""<!DOCTYPE html>
-<html lang="en"><head><meta charset="utf-8"><title>{title}</title><style>{STYLE}</style></head><body>
-<h1>{title}</h1><p>Asked at {recall.minute:%Y-%m-%d %H:%M} UTC, of the lines {html.escape(', '.join(it.name for it in recall.lines))}. {html.escape(version)}</p>
-{head}{listed(recall.notes)}{body}
-</body></html>
-"""
+        found.append(("Shipped", customers(boards)))
+    left = ("Pieces", "pieces") if is_board else ("In stock or mounted", "reels")
+    found.append((left[0], tables[left[1]]))
+    if count := len(recall.doubtful):
+        title = f"Doubtful pieces: {count}, which may have come from another reel"
+        found.append((title, tables["doubtful"]))
+    if count := len(recall.untraced):
+        title = f"Untraced work: {len(recall.undecided())} undecided of {count}"
+        found.append((title, tables["untraced"]))
+    asked = sum(1 for it in recall.asked if not it.why)
+    found.append((f"Asked: {asked} of {len(recall.asked)}", tables["asked"]))
+    return found
 
 
 def customers(boards: Table) -> Table:
