@@ -23,7 +23,8 @@ OPTION = re.compile(r"(?<![\w-])--[a-z][a-z-]*")
 @functools.cache
 def options(tool: str) -> set[str]:
     found = set()
-    for subcommand in ("", *(cli.APART if tool == "tracedesk-ops" else ())):
+    subcommands = (*cli.SUBCOMMANDS, *cli.APART) if tool == "tracedesk-ops" else ()
+    for subcommand in ("", *subcommands):
         words = [sys.executable, str(TOOLS[tool]), *filter(None, [subcommand]), "--help"]
         found |= set(OPTION.findall(subprocess.run(words, capture_output=True, text=True).stdout))
     return found
