@@ -8,7 +8,7 @@ from collections.abc import Sequence
 import pytest
 
 from tracedesk_dev import packages
-from tracedesk_ops import lineage, sealed
+from tracedesk_ops import around, lineage, sealed
 from tracedesk_ops.sealed import Sealed
 
 if why := packages.lacking("python:hypothesis"):
@@ -67,6 +67,12 @@ def continued(files: Sequence[Sealed], lost: Sequence[Sealed] = ()) -> list[Seal
     return [file for file in files if file not in lineage.tops(files, lost)][: -lineage.KEPT + 1]
 
 
+def newest(desk: Sealed | None, there: list[Sealed], lost: list[Sealed]) -> list[Sealed]:
+    """A recall takes the newest sealed file for the desk that is there."""
+    files = lineage.chain(there, lost) if there or lost else []
+    return [*files, desk] if desk else files
+
+
 def noticed(monkeypatch: pytest.MonkeyPatch, module: object, name: str, fault: object) -> None:
     monkeypatch.setattr(module, name, fault)
     with pytest.raises(AssertionError):
@@ -80,8 +86,9 @@ def noticed(monkeypatch: pytest.MonkeyPatch, module: object, name: str, fault: o
         (sealed, "continues", last_row_is_there),
         (sealed, "read", read_by_name),
         (lineage, "read_all", read_sealed),
+        (around, "history", newest),
     ],
-    ids=["the last row alone", "a file taken by its name", "lost is not looked at"],
+    ids=["the last row alone", "a name is believed", "lost is not looked at", "not the desk's"],
 )
 def test_a_planted_fault_is_noticed(
     monkeypatch: pytest.MonkeyPatch, module: object, name: str, fault: object
