@@ -6,6 +6,7 @@ import os
 import pathlib
 import shutil
 import sys
+from collections.abc import Callable
 
 import pytest
 
@@ -17,6 +18,11 @@ from tracedesk_ops import chains, cli, held, lineage, plant, sealed
 from tracedesk_ops.line import LineFolder
 
 Path = pathlib.Path
+DAMAGED: dict[str, Callable[[bytes], bytes]] = {  # what becomes of a desk's bytes
+    "no database": lambda text: b"no database" * 100,
+    "a broken page": lambda text: text[:4096].replace(b"accepted", b"\xff" * 8) + bytes(40960),
+    "empty": lambda text: b"",
+}
 
 
 class Called:
@@ -100,6 +106,42 @@ def test_what_a_restore_took_off_is_said_by_each_seal(
     assert called.ends("check") == 3
     files.accept(called.line.desk, ["c"])
     assert called.ends("seal") == 0 and called.ends("check") == 0
+
+
+@pytest.mark.parametrize(
+    "desk, status, lost",
+    [
+        ("sealed", 0, 0),
+        ("went on", 4, 1),
+        ("no database", 4, 1),
+        ("a broken page", 4, 1),
+        ("empty", 4, 1),
+        ("gone", 0, 0),
+    ],
+)
+def test_what_the_page_says_of_a_restore(called: Called, desk: str, status: int, lost: int) -> None:
+    """docs/line-folder.md, "Restore"; the dry run has the same status, and changes nothing."""
+    files.accept(called.line.desk, ["b"])
+    assert called.ends("seal") == 0
+    if desk == "went on":
+        files.accept(called.line.desk, ["c"])
+    elif desk in DAMAGED:
+        called.line.desk.write_bytes(DAMAGED[desk](called.line.desk.read_bytes()))
+    elif desk == "gone":
+        called.line.desk.unlink()
+    assert called.ends("restore", "--dry-run") == status
+    assert not called.line.lost.exists() or not [*called.line.lost.iterdir()]
+    assert called.ends("restore") == status
+    kept = [*called.line.lost.glob("*.desk")]
+    assert uids(called.line.desk) == ["a", "b"] and len(kept) == lost
+    if desk == "went on":
+        assert called.ends("restore", kept[0].stem[:6]) == 0
+        assert uids(called.line.desk) == ["a", "b", "c"] and not [*called.line.lost.iterdir()]
+
+
+def uids(desk: Path) -> list[str]:
+    with sealed.opened(desk) as database:
+        return [uid for (uid,) in database.execute("SELECT uid FROM accepted ORDER BY number")]
 
 
 def test_a_desk_that_was_set_back_is_said_and_nothing_goes(

@@ -154,8 +154,8 @@ def kept_in_lost(line: LineFolder, name: str, work: Path) -> Iterator[None]:
     room = work / "lost"
     room.mkdir()
     copy = whole_copy(line.desk, room)
-    if not copies.logs_of(copy):
-        copies.fold(line.desk)
+    if copies.logs_of(line.desk) and not copies.logs_of(copy):
+        copies.fold(line.desk)  # as the copy was; a damaged desk without a log is none for SQLite
     hold = plant.Held(line.desk)
     try:
         if copy.name != name or not hold.sha256().startswith(copy.stem):
