@@ -52,8 +52,10 @@ def read_by_name(path: sealed.Path) -> Sealed:
 read_all, lacking = lineage.read_all, lineage.lacking
 
 
-def read_sealed(folder: sealed.Path, faults: list[str]) -> list[Sealed]:
-    return [] if folder.name == "lost" else read_all(folder, faults)
+def read_sealed(
+    folder: sealed.Path, faults: list[str], read: around.Read | None = None
+) -> list[Sealed]:
+    return [] if folder.name == "lost" else read_all(folder, faults, read)
 
 
 def lacking_of_samples(members: Sequence[Sealed], others: Sequence[Sealed]) -> list[lineage.Lacked]:
