@@ -17,7 +17,7 @@ build:         ## proves and builds the program, and prints its path | 35 min, t
 	@dev/build
 day:           ## feeds a made-up shift to a desk, and prints what is asked of it: docs/day.md | 10 s
 	@examples/day
-plant-recall:  ## three lines in one PostgreSQL, and a recall over them, compared with docs/plant.md; the same recalls three ways, and what a load can meet | 6 min | postgresql python3-psycopg python3-pytest
+plant-recall:  ## three lines in one PostgreSQL, and a recall over them, compared with docs/plant.md; the same recalls three ways, what a load can meet, and three plants | 6 min | postgresql python3-psycopg python3-pytest
 	$(say)
 	@/usr/bin/python3 -m pytest -q ops/tests/test_plant_*.py ops/tests/test_three_ways.py
 

@@ -30,7 +30,7 @@ DO $$ DECLARE it record; BEGIN
         COMMIT;
     END LOOP;
 END $$;
-DELETE FROM looked USING going WHERE going.line = ANY (string_to_array(looked.line, '; '));
-DELETE FROM untraced WHERE NOT EXISTS (SELECT FROM file WHERE file.line = ANY (string_to_array(untraced.line, '; ')));  -- of a wrong name
+DELETE FROM looked USING going WHERE going.line = looked.line;
+DELETE FROM untraced WHERE NOT EXISTS (SELECT FROM file WHERE file.line = untraced.line);  -- of a wrong name
 INSERT INTO state DEFAULT VALUES;
 SELECT line, name AS dropped FROM going ORDER BY line, name;

@@ -14,7 +14,6 @@ CREATE TABLE IF NOT EXISTS file (
     first_minute bigint,                        -- none of a desk without a command
     last_minute  bigint,
     commands     bigint NOT NULL,
-    last_uid     text NOT NULL,                 -- of the last command, by which a later copy of the same desk is known
     pieces       bigint NOT NULL,
     taken        text NOT NULL,                 -- when a running desk was sealed; empty of an archive
     dropped      boolean NOT NULL DEFAULT false, -- its pieces were taken out, by drop.sql
@@ -22,7 +21,8 @@ CREATE TABLE IF NOT EXISTS file (
     mark         text NOT NULL DEFAULT '',      -- the first digits of the checksum of the archive from which it was begun
     UNIQUE (line, name)
 );
-ALTER TABLE file ADD COLUMN IF NOT EXISTS mark text NOT NULL DEFAULT '', DROP COLUMN IF EXISTS epochs, DROP COLUMN IF EXISTS desk;  -- of 1.0.0
+ALTER TABLE file ADD COLUMN IF NOT EXISTS mark text NOT NULL DEFAULT '', DROP COLUMN IF EXISTS epochs, DROP COLUMN IF EXISTS desk,
+    DROP COLUMN IF EXISTS last_uid;  -- of 1.0.0
 CREATE INDEX IF NOT EXISTS file_digits ON file (left(sha256, 24));
 -- each accepted command but a ClockSet, by the MD5 of all that its sender said: two files of a line that have one which places pieces would count them twice
 CREATE TABLE IF NOT EXISTS command (
@@ -145,14 +145,25 @@ CREATE TABLE IF NOT EXISTS placement (
 CREATE INDEX IF NOT EXISTS placement_reel ON placement (reel);
 CREATE INDEX IF NOT EXISTS placement_board ON placement (board);
 
-CREATE OR REPLACE FUNCTION spelled(minute bigint) RETURNS text LANGUAGE sql STABLE PARALLEL SAFE AS
-$$ SELECT to_char(to_timestamp(minute * 60) AT TIME ZONE 'UTC', 'YYYY-MM-DD"T"HH24:MI:SS"Z"') $$;
+SELECT to_regprocedure('spelled(bigint)') IS NOT NULL AS is_old \gset
+\if :is_old
+    DROP VIEW piece;  -- of 1.0.0, with minutes that were numbers
+    DROP FUNCTION pieces_of, spelled, knows, faults;
+    DROP FUNCTION IF EXISTS answer; DROP TABLE IF EXISTS own_name;
+    INSERT INTO lacking SELECT DISTINCT unnest(string_to_array(line, '; ')), 'untraced work and doubtful pieces', 'lines had one folder for them: call tracedesk-plant-load again'
+        FROM (SELECT line FROM looked UNION SELECT line FROM untraced UNION SELECT line FROM doubtful) its WHERE line LIKE '%; %' ON CONFLICT DO NOTHING;
+    DELETE FROM untraced WHERE line LIKE '%; %';
+    DELETE FROM doubtful WHERE line LIKE '%; %';
+    DELETE FROM looked WHERE line LIKE '%; %';
+\endif
+\ir asking.sql
+CREATE OR REPLACE FUNCTION moment(minute bigint) RETURNS timestamptz LANGUAGE sql IMMUTABLE PARALLEL SAFE AS $$ SELECT to_timestamp(minute * 60) $$;
 
 -- The pieces of a lot or a reel, or on a board. Two small tables name the files that have some, and only their parts are read: a
 -- statement over all parts would lock and plan each of them. A file that the snapshot has, and that was taken out since, is an error:
 -- ask again. kind is 'lot', 'reel' or 'board'.
 CREATE OR REPLACE FUNCTION pieces_of(kind text, wanted text)
-RETURNS TABLE (board text, designator text, part text, lot text, reel text, machine text, slot text, overdue text, minute bigint, line text, file text, as_of bigint, id integer)
+RETURNS TABLE (board text, designator text, part text, lot text, reel text, machine text, slot text, overdue text, at timestamptz, line text, file text, until timestamptz, id integer)
 LANGUAGE plpgsql STABLE SET search_path FROM CURRENT SET jit = off AS $$
 #variable_conflict use_column
 DECLARE it record;
@@ -160,48 +171,54 @@ BEGIN
     IF kind NOT IN ('lot', 'reel', 'board') THEN
         RAISE EXCEPTION 'pieces are asked of a lot, a reel or a board, and not of a %', kind;
     END IF;
-    FOR it IN EXECUTE format('SELECT id, line, name, last_minute FROM file WHERE id IN (SELECT file FROM %I WHERE %I = $1) ORDER BY id',
+    FOR it IN EXECUTE format('SELECT id, line, name, moment(last_minute) AS until FROM file WHERE id IN (SELECT file FROM %I WHERE %I = $1) ORDER BY id',
                              CASE kind WHEN 'board' THEN 'start' ELSE 'reel' END, kind) USING wanted LOOP
         IF to_regclass(format('placement_%s', it.id)) IS NULL THEN
             RAISE EXCEPTION 'the file % % was taken out or replaced meanwhile: ask again', it.line, it.name;
         END IF;
         RETURN QUERY EXECUTE format(
-            $q$ SELECT p.board, p.designator, r.part, r.lot, r.reel, p.machine, p.slot, CASE WHEN p.overdue THEN 'yes' ELSE 'no' END, p.minute, $2, $3, $4, $5
+            $q$ SELECT p.board, p.designator, r.part, r.lot, r.reel, p.machine, p.slot, CASE WHEN p.overdue THEN 'yes' ELSE 'no' END, moment(p.minute), $2, $3, $4, $5
                 FROM placement_%s p JOIN reel r ON r.file = $5 AND r.reel = p.reel WHERE %s.%I = $1 $q$,
-            it.id, CASE kind WHEN 'board' THEN 'p' ELSE 'r' END, kind) USING wanted, it.line, it.name, it.last_minute, it.id;
+            it.id, CASE kind WHEN 'board' THEN 'p' ELSE 'r' END, kind) USING wanted, it.line, it.name, it.until, it.id;
     END LOOP;
 END $$;
 
 -- The same rows for queries of your own: a statement over it locks and plans all parts, so with thousands of files it is slow or fails.
 CREATE OR REPLACE VIEW piece AS
 SELECT p.board, p.designator, r.part, r.lot, r.reel, p.machine, p.slot, CASE WHEN p.overdue THEN 'yes' ELSE 'no' END AS overdue,
-       p.minute, f.line, f.name AS file, f.last_minute AS as_of, f.id
+       moment(p.minute) AS at, f.line, f.name AS file, moment(f.last_minute) AS until, f.id
 FROM placement p JOIN reel r ON r.file = p.file AND r.reel = p.reel JOIN file f ON f.id = p.file;
 
-CREATE OR REPLACE FUNCTION knows(kind text, wanted text) RETURNS boolean LANGUAGE sql STABLE SET search_path FROM CURRENT AS $$
-    SELECT CASE kind WHEN 'board' THEN EXISTS (SELECT FROM start WHERE board = wanted) WHEN 'lot' THEN EXISTS (SELECT FROM reel WHERE lot = wanted)
-           ELSE EXISTS (SELECT FROM reel WHERE reel = wanted) END
-$$;
+-- What a recall reads. A database that asks several plants has these views of each, under the same names (add.sql), so each row has its
+-- plant, which is the name of its database.
+-- the names that files know: each with its line, and with the part of a lot or a reel
+CREATE OR REPLACE VIEW known AS
+    SELECT current_database()::text AS plant, its.* FROM (
+        SELECT 'lot' AS kind, lot AS wanted, line, part FROM reel JOIN file ON file.id = reel.file
+        UNION SELECT 'reel', reel, line, part FROM reel JOIN file ON file.id = reel.file
+        UNION SELECT 'board', board, line, '' FROM start JOIN file ON file.id = start.file) its;
+-- the pieces of a name: a query says which kind and which name
+CREATE OR REPLACE VIEW asked AS
+    SELECT current_database()::text AS plant, names.*, its.* FROM (SELECT DISTINCT kind, wanted FROM known) names, pieces_of(kind, wanted) its;
+-- starts of work
+CREATE OR REPLACE VIEW begun AS
+    SELECT current_database()::text AS plant, line, board, machine, moment(minute) AS at, number FROM start JOIN file ON file.id = start.file;
+-- what is said of each answer: by a note it stays exact
+CREATE OR REPLACE VIEW fault AS
+    SELECT current_database()::text AS plant, its.* FROM (
+        SELECT format('without %s: %s', concat_ws(' ', nullif(line, ''), name), why) AS fault, false AS is_note FROM missing
+        UNION ALL SELECT format('without %s files up to %s, which were dropped: tracedesk-recall asks them', count(*), spelled(moment(max(last_minute)))), false
+            FROM file WHERE dropped HAVING count(*) > 0
+        UNION ALL SELECT format('untraced work of %s, %s: %s of board %s on %s was refused, %s; on the machine was %s; nobody decided about %s',
+            line, at, work, board, machine, refusal, reels, id), false FROM untraced WHERE became = ''
+        UNION ALL SELECT format('Untraced work about which somebody decided, in the table plant.untraced: %s', count(*)), true
+            FROM untraced WHERE became <> '' HAVING count(*) > 0) its;
+-- pieces in doubt, each with the reels that were refused on its machine
+CREATE OR REPLACE VIEW doubt AS
+    SELECT current_database()::text AS plant, doubtful.*, ARRAY(SELECT refused.reel FROM refused WHERE refused.line = doubtful.line AND refused.machine = doubtful.machine) AS refused
+    FROM doubtful;
+CREATE OR REPLACE VIEW states AS SELECT current_database()::text AS plant, token, number FROM state;
 
--- What keeps an answer from being exact, in the same snapshot: files that are not loaded, work that is in no trace, pieces in doubt. A piece
--- in doubt may be of any reel of its part: one that the desk refused may have been on the slot all the same. If the line knows no reel
--- of the name, it may be on each machine on which such a reel was refused. A machine's reel that no desk knows may be of any lot and part.
-CREATE OR REPLACE FUNCTION faults(kind text, wanted text) RETURNS SETOF text LANGUAGE sql STABLE SET search_path FROM CURRENT AS $$
-    WITH own AS (
-        SELECT line, part FROM reel JOIN file ON file.id = reel.file WHERE kind = 'lot' AND lot = wanted
-        UNION SELECT line, part FROM reel JOIN file ON file.id = reel.file WHERE kind = 'reel' AND reel = wanted
-    ), doubt AS (
-        SELECT *, ARRAY(SELECT part FROM own WHERE own.line = ANY (string_to_array(doubtful.line, '; '))) AS parts FROM doubtful
-    )
-    SELECT format('without %s: %s', concat_ws(' ', nullif(line, ''), name), why) FROM missing
-    UNION ALL SELECT format('without %s files up to %s, which were dropped: tracedesk-recall asks them', count(*), spelled(max(last_minute))) FROM file WHERE dropped HAVING count(*) > 0
-    UNION ALL SELECT format('untraced work of %s, %s: %s of board %s on %s was refused, %s; on the machine was %s; nobody decided about %s', line, at, work, board, machine, refusal, reels, id)
-        FROM untraced WHERE became = ''
-    UNION ALL SELECT format('doubtful piece of %s: %s of board %s, %s, may not be of %s of lot %s%s: %s', line, designator, board, spelled(minute), reel, lot,
-        CASE other_reels WHEN '{}' THEN '' ELSE format(', but of %s of lot %s', array_to_string(other_reels, ' or '), array_to_string(other_lots, ' or ')) END, why)
-        FROM doubt WHERE CASE kind WHEN 'board' THEN board IN (wanted, '') ELSE reel = '' OR wanted = ANY (CASE kind WHEN 'lot' THEN lot || other_lots ELSE reel || other_reels END) OR part = ANY (parts)
-            OR kind = 'lot' AND '' = ANY (other_lots) AND why LIKE 'the machine names another reel%'
-            OR parts = '{}' AND EXISTS (SELECT FROM refused WHERE refused.line = doubt.line AND refused.machine = doubt.machine AND (kind = 'lot' OR refused.reel = wanted)) END
-$$;
-DROP FUNCTION IF EXISTS answer(text, text, integer, uuid[]);  -- of 1.0.0
+-- the plants that a recall asks, and why it can't
+CREATE OR REPLACE FUNCTION asking() RETURNS TABLE (plant text, fault text) LANGUAGE sql STABLE AS $$ SELECT current_database()::text, NULL $$;
 RESET client_min_messages;

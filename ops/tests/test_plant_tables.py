@@ -18,8 +18,8 @@ NOW = """to_char(now() AT TIME ZONE 'UTC', 'YYYY-MM-DD"T"HH24MISS"Z"')"""
 FILES = f"""
 INSERT INTO line VALUES ('L1');
 INSERT INTO file VALUES
-    (1, 'L1', 'L1-a', '{ARCHIVE}{ARCHIVE}', 1, 9, 5, 'u', 4, '', false, 4, ''),
-    (2, 'L1', 'running desk', 'c', 1, 9, 5, 'v', 4, {NOW}, false, 4, '{ARCHIVE}');
+    (1, 'L1', 'L1-a', '{ARCHIVE}{ARCHIVE}', 1, 9, 5, 4, '', false, 4, ''),
+    (2, 'L1', 'running desk', 'c', 1, 9, 5, 4, {NOW}, false, 4, '{ARCHIVE}');
 INSERT INTO reel VALUES (1, 'R', 'P', 'LOT', '1');
 CREATE TABLE placement_1 PARTITION OF placement FOR VALUES IN (1);
 CREATE TABLE placement_2 PARTITION OF placement FOR VALUES IN (2);
@@ -116,7 +116,7 @@ def test_a_state_that_cannot_be_kept_is_said(database: Database) -> None:
 def test_a_file_of_a_mistyped_line_is_taken_out(database: Database) -> None:
     database.change(
         "INSERT INTO line VALUES ('L11');"
-        f"INSERT INTO file VALUES (3, 'L11', 'running desk', 'e', 1, 9, 5, 'w', 4, {NOW});"
+        f"INSERT INTO file VALUES (3, 'L11', 'running desk', 'e', 1, 9, 5, 4, {NOW});"
         "CREATE TABLE placement_3 PARTITION OF placement FOR VALUES IN (3)"
     )
     ask(database)

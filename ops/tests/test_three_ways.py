@@ -1,6 +1,7 @@
 """Two lines that work on some of the same boards, asked three ways, which print the same rows.
 
-The ways are the program's report on each file, tracedesk-recall, and PostgreSQL.
+The ways are the program's report on each file, tracedesk-recall, and PostgreSQL: one database of
+both lines, and one that asks a database of each line.
 """
 import contextlib
 import pathlib
@@ -74,6 +75,18 @@ def whole(lines: list[WorkedLine], server: postgres.Server) -> Database:
     return made
 
 
+@pytest.fixture(scope="module")
+def several(lines: list[WorkedLine], server: postgres.Server) -> Database:
+    """A database that asks a plant of each line."""
+    made = databases.create(server, "several", schema="")
+    for line in lines:
+        plant = databases.create(server, f"of_{line.name}".lower())
+        plant.make_role("recall")
+        plant.load(line.kept()[-1])
+        made.add(plant)
+    return made
+
+
 @pytest.fixture
 def again(server: postgres.Server, whole: Database) -> Iterator[Database]:
     """A copy of the whole database, which a test may change."""
@@ -139,6 +152,17 @@ def test_reports_a_recall_and_the_database_print_the_same(
     for name in chosen(asking, kind, some, lot):
         found += len(expect_same(asking, whole, kind, name))
     assert found
+
+
+@pytest.mark.parametrize("kind", KINDS)
+def test_two_plants_print_the_same(
+    asking: Asking, whole: Database, several: Database, lot: str, kind: str
+) -> None:
+    for name in chosen(asking, kind, 2, lot):
+        wanted = whole.query("pieces", **{kind: name}).rows
+        for row in wanted:
+            row["line"] = f"of_{row['line']}/".lower() + row["line"]
+        assert several.query("pieces", **{kind: name}).rows == wanted
 
 
 def test_boards_of_a_lot_are_the_same(asking: Asking, whole: Database, lot: str) -> None:

@@ -13,6 +13,7 @@ from lab.tools import Ended, Word, run, run_tool
 from tracedesk_dev import packages, postgres
 
 SQL = postgres.SQL
+PASSWORD = "of a plant"
 
 
 def skip_without() -> None:
@@ -66,6 +67,8 @@ class Database:
             "PGUSER": "plant",
             "PGCLIENTENCODING": "UTF8",
             "TRACEDESK_SEEN": str(self.server.folder / f"seen-{self.name}"),
+            "PLANT_PASSWORD": PASSWORD,
+            "ROLE_PASSWORD": PASSWORD,
         }
 
     def psql(self, *words: Word, status: int = 0) -> Ended:
@@ -89,6 +92,15 @@ class Database:
         words = ["psql", "-X", "--csv", *variables(values), "-f", SQL / f"{name}.sql"]
         done = run(words, env=self.environment).expect(status)
         return Queried(table(done.out), done.err)
+
+    def make_role(self, name: str) -> None:
+        """Makes a role that reads the tables, with PASSWORD."""
+        self.psql("-v", f"role={name}", "-f", SQL / "reader.sql")
+
+    def add(self, plant: Database) -> None:
+        """Adds a plant to those that this database asks, by the role `recall`."""
+        its = {"host": plant.server.folder, "dbname": plant.name, "user": "recall"}
+        self.psql(*variables(its), "-f", SQL / "add.sql")
 
     def drop(self, **values: object) -> None:
         """Takes files out, as docs/plant.md says."""

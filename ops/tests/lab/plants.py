@@ -12,7 +12,7 @@ from lab.line import Line
 from lab.world import RUNNING
 from tracedesk_ops import catalogue
 
-PIECES = "line, file, board, designator, part, lot, reel, machine, slot, overdue, minute"
+PIECES = "line, file, board, designator, part, lot, reel, machine, slot, overdue, at"
 PARTS = "SELECT count(*) FROM pg_class WHERE relkind = 'r' AND relname LIKE 'placement%'"
 TABLES = (
     *("file", "lacking", "reel", "start", "command"),

@@ -27,12 +27,11 @@ PLACEMENTS = """SELECT replace(?1 || char(9) || number || char(9) || place || ch
     FROM placement CROSS JOIN accepted USING (number) ORDER BY reel, number, place"""  # a reel's pieces lie on few pages
 REELS = "SELECT ?1, reel, part, lot, level FROM reel"
 STARTS = "SELECT ?1, number, command, effective FROM accepted WHERE command LIKE 'WorkStarted%'"
-UID_OF = "SELECT uid FROM accepted WHERE number = ?"
 SEEN = "SELECT count(*), min(effective), max(effective) FROM accepted"
 SAID = "SELECT uid, source, own, command FROM accepted WHERE command <> 'ClockSet'"
 FILE = (
-    "INSERT INTO file (id, line, name, sha256, first_minute, last_minute, commands, last_uid,"
-    " pieces, taken, said, mark) VALUES (%s, %s, %s, %s, %s, %s, %s, %s, %s, %s, %s, %s)"
+    "INSERT INTO file (id, line, name, sha256, first_minute, last_minute, commands, pieces,"
+    " taken, said, mark) VALUES (%s, %s, %s, %s, %s, %s, %s, %s, %s, %s, %s)"
 )
 PLACES = "MaterialsInstalled\t"  # how the commands begin that place pieces
 
@@ -160,12 +159,11 @@ class Tables:
         said = self.commands_of(database)
         replaced, cut = self.gives_way(seen, said)
         ((commands, first, last),) = database.execute(SEEN)
-        ((uid,),) = database.execute(UID_OF, [commands]).fetchall() or [("",)]
         with self.link.transaction():
             number = self.rows("SELECT nextval('file_id') AS it")[0].it
             pieces = self.part(number, database)
             self.give_way(seen, replaced, cut)
-            told = (commands, uid, pieces, seen.taken, said, sealed.begun_from(database))
+            told = (commands, pieces, seen.taken, said, sealed.begun_from(database))
             self.do(FILE, number, seen.line, seen.name, seen.sha256, first, last, *told)
             self.do("INSERT INTO command SELECT %s, identity, places FROM its", number)
             self.expect(seen.line)

@@ -1,0 +1,316 @@
+"""One database asks several plants: its answer is never a smaller one with status 0. Each plant has
+some files of made-up pieces.
+"""
+from __future__ import annotations
+
+import collections
+import contextlib
+import os
+import signal
+from concurrent.futures import ThreadPoolExecutor
+from typing import Any, Iterator
+
+import pytest
+from lab import databases
+from lab.databases import Database, Queried
+from lab.line import table
+from lab.tools import Word
+from lab.waits import wait_for
+
+pytestmark = [pytest.mark.xdist_group("plant_several")]
+
+NAMES = ("augsburg", "brno", "cork")
+NOW = """to_char(now() AT TIME ZONE 'UTC', 'YYYY-MM-DD"T"HH24MISS"Z"')"""
+# Two archives and the running desk of line L1. Each has 134 pieces of the lot: half of the boards
+# are of one plant, and each other one is in all of them.
+FILES = f"""INSERT INTO line VALUES ('L1');
+DO $$ BEGIN FOR it IN 1 .. 3 LOOP
+    INSERT INTO file VALUES (it, 'L1', CASE it WHEN 3 THEN 'running desk' ELSE 'archive-' || it END,
+        'sum', 1, it, 5, 200, CASE it WHEN 3 THEN {NOW} ELSE '' END);
+    INSERT INTO reel VALUES (it, 'R' || it, 'P', 'LOT', '1'), (it, 'S' || it, 'P', 'OTHER', '1');
+    INSERT INTO state DEFAULT VALUES;
+    EXECUTE format('CREATE TABLE placement_%s PARTITION OF placement FOR VALUES IN (%s)', it, it);
+    INSERT INTO placement SELECT it, n, 1,
+        CASE n % 2 WHEN 0 THEN 'shared-' || n ELSE format('%s-%s-%s', current_database(), it, n) END,
+        'C1', 'M', '1', CASE n % 3 WHEN 0 THEN 'S' ELSE 'R' END || it, false, n
+        FROM generate_series(1, 200) n;
+    INSERT INTO start SELECT file, number, machine, board, minute FROM placement WHERE file = it;
+END LOOP; END $$"""
+PIECES, BOARDS, SHARED = 134, 67, 67  # of the lot in a file: all of them, alone and shared
+WAITING = "SELECT count(*) FROM pg_locks WHERE NOT granted"
+
+
+class Several:
+    """Three plants, each with a server of its own, and a database that asks them."""
+
+    def __init__(self, kept: contextlib.ExitStack) -> None:
+        self.plants = {name: new_plant(kept, name) for name in NAMES}
+        self.all = 9 * PIECES
+        self.database = databases.create(self.plants[NAMES[0]].server, "several", schema="")
+        for its in self.plants.values():
+            self.database.add(its)
+        self.database.make_role("reader")
+
+    def ask(self, query: str = "pieces", status: int = 0, **values: str) -> Queried:
+        return self.database.query(query, status, **(values or {"lot": "LOT"}))
+
+    def of_plants(self, *names: str, **values: object) -> list[dict[str, str]]:
+        """The pieces of a name by each plant's own database."""
+        return [
+            {**row, "line": f"{name}/{row['line']}"}
+            for name in names
+            for row in self.plants[name].query("pieces", **values).rows
+        ]
+
+    def expect_without(self, name: str, said: str) -> None:
+        """The others' pieces are there, and the recall says what it lacks."""
+        told = self.ask(status=3)
+        others = self.of_plants(*(it for it in NAMES if it != name), lot="LOT")
+        assert ordered(told.rows) == ordered(others)
+        assert f"{name}: it was not asked: " in told.said and said in told.said
+
+    def expect_all(self) -> None:
+        assert len(self.ask().rows) == self.all
+
+    @contextlib.contextmanager
+    def limits(self, connect: int = 10, answer: int = 60) -> Iterator[None]:
+        """How many seconds the last plant may take."""
+        self.set_limits(connect, answer)
+        yield
+        self.set_limits(10, 60)
+
+    def set_limits(self, connect: int, answer: int) -> None:
+        options = f"SET connect_timeout '{connect}', SET options '-c statement_timeout={answer}s'"
+        self.database.psql("-c", f"ALTER SERVER cork OPTIONS ({options})")
+
+
+def new_plant(kept: contextlib.ExitStack, name: str) -> Database:
+    """A plant whose role `recall` only reads, and has to name its password."""
+    its = databases.create(kept.enter_context(databases.server()), name)
+    its.make_role("recall")
+    hba = its.server.data / "pg_hba.conf"
+    hba.write_text("local all recall scram-sha-256\n" + hba.read_text())
+    its.psql("-c", "SELECT pg_reload_conf()")
+    its.change(FILES)
+    return its
+
+
+@contextlib.contextmanager
+def session(its: Database, change: str) -> Iterator[Any]:
+    """A transaction of another session, which is open."""
+    import psycopg  # not on each machine
+
+    where = f"host={its.server.folder} dbname={its.name} user=plant"
+    with contextlib.closing(psycopg.connect(where)) as link:
+        link.execute(f"SET search_path TO plant; {change}")
+        yield link
+
+
+def ordered(rows: list[dict[str, str]]) -> list[list[tuple[str, str]]]:
+    return sorted(sorted(row.items()) for row in rows)
+
+
+@pytest.fixture(scope="module")
+def several() -> Iterator[Several]:
+    databases.skip_without()
+    with contextlib.ExitStack() as kept:
+        yield Several(kept)
+
+
+# --- An answer
+
+
+@pytest.mark.parametrize(
+    ("kind", "name", "count"),
+    [
+        ("lot", "LOT", 9 * PIECES),
+        ("reel", "R1", 3 * PIECES),
+        ("board", "shared-4", 9),
+        ("board", "brno-1-1", 1),
+    ],
+)
+def test_all_plants_pieces_are_there(several: Several, kind: str, name: str, count: int) -> None:
+    got = several.database.query("pieces", **{kind: name}).rows
+    wanted = [
+        {**row, "line": f"{plant}/{row['line']}"}
+        for plant, its in several.plants.items()
+        for row in its.query("pieces", 0 if count > 1 or plant == "brno" else 3, **{kind: name})[0]
+    ]
+    assert len(got) == count and ordered(got) == ordered(wanted)
+
+
+def test_boards_are_counted_over_all_plants(several: Several) -> None:
+    rows = several.ask("recall").rows
+    assert len(rows) == 9 * BOARDS + SHARED
+    pieces = collections.Counter(row["pieces"] for row in rows)
+    assert pieces == {"1": 9 * BOARDS, "9": SHARED}
+    assert {row["lines"] for row in rows if row["pieces"] == "9"} == {"augsburg/L1 brno/L1 cork/L1"}
+
+
+def test_the_plants_are_asked_side_by_side(several: Several) -> None:
+    query = "EXPLAIN SELECT FROM plant.asked WHERE kind = 'lot' AND wanted = 'LOT'"
+    assert several.database.told(query).count("Async Foreign Scan") == len(NAMES)
+
+
+def test_a_name_that_no_plant_knows(several: Several) -> None:
+    assert "no file that is loaded knows the name" in several.ask(status=3, lot="NONE").said
+
+
+def test_a_newer_seal_takes_the_place_of_the_older_one(several: Several) -> None:
+    """As a load does it, in one transaction: until that is done, the answer is that of before."""
+    newer = (
+        "INSERT INTO file SELECT 4, line, 'newer', sha256, 1, 9, 5, 300, taken FROM file"
+        " WHERE id = 3; DELETE FROM file WHERE id = 3;"
+        " UPDATE file SET name = 'running desk' WHERE id = 4;"
+        " CREATE TABLE placement_4 PARTITION OF placement FOR VALUES IN (4);"
+        " INSERT INTO reel VALUES (4, 'R4', 'P', 'LOT', '1');"
+        " INSERT INTO placement SELECT 4, n, 1, 'newer-' || n, 'C1', 'M', '1', 'R4', false, n"
+        " FROM generate_series(1, 300) n"
+    )
+    with session(several.plants["brno"], newer) as link:
+        several.expect_all()
+        link.execute("DROP TABLE placement_3")
+        link.commit()
+    several.all += 300 - PIECES
+    several.expect_all()
+
+
+# --- A role that only reads
+
+
+def test_a_reader_asks(several: Several) -> None:
+    words: list[Word] = ["-U", "reader", "--csv", "-v", "board=shared-4"]
+    done = several.database.psql(*words, "-f", databases.SQL / "pieces.sql")
+    assert table(done.out) == several.ask(board="shared-4").rows
+
+
+@pytest.mark.parametrize(
+    ("role", "table"), [("reader", "plant.expected"), ("plant", "plant_cork.states")]
+)
+def test_a_reader_changes_nothing(several: Several, role: str, table: str) -> None:
+    """Neither here nor, as each other role, at a plant."""
+    done = several.database.psql("-U", role, "-c", f"DELETE FROM {table}", status=1)
+    assert "permission denied" in done.err
+
+
+# --- Plants that aren't there
+
+
+def test_a_plant_that_is_down(several: Several) -> None:
+    away = several.plants["cork"].server
+    away.stop()
+    try:
+        several.expect_without("cork", "No such file or directory")
+    finally:
+        away.start()
+    several.expect_all()
+
+
+def test_a_plant_that_is_frozen(several: Several) -> None:
+    pid = int((several.plants["cork"].server.data / "postmaster.pid").read_text().split()[0])
+    os.kill(pid, signal.SIGSTOP)
+    try:
+        with several.limits(connect=2):
+            several.expect_without("cork", "timeout expired")
+    finally:
+        os.kill(pid, signal.SIGCONT)
+    several.expect_all()
+
+
+def test_a_plant_whose_tables_are_locked(several: Several) -> None:
+    with several.limits(answer=2), session(several.plants["cork"], "LOCK TABLE reel"):
+        several.expect_without("cork", "canceling statement due to statement timeout")
+    several.expect_all()
+
+
+def test_a_plant_that_hangs_amid_its_answer_is_an_error(several: Several) -> None:
+    with several.limits(answer=2), session(several.plants["cork"], "LOCK TABLE placement_1"):
+        told = several.ask(status=3)
+    assert told.rows == [] and "canceling statement due to statement timeout" in told.said
+
+
+def test_a_plant_that_ends_amid_its_answer_is_an_error(several: Several) -> None:
+    cork = several.plants["cork"]
+    with session(cork, "LOCK TABLE placement_1"), ThreadPoolExecutor() as threads:
+        asking = threads.submit(several.ask, "pieces", 3)
+        wait_for("the plant is asked", lambda: asking.done() or cork.told(WAITING) == "1\n")
+        databases.stop(cork.server)
+        assert asking.result().rows == []
+    cork.server.start()
+    several.expect_all()
+
+
+def test_a_password_that_is_wrong(several: Several) -> None:
+    change = "ALTER USER MAPPING FOR PUBLIC SERVER cork OPTIONS (SET password '{}')"
+    several.database.psql("-c", change.format("other"))
+    several.expect_without("cork", "password authentication failed")
+    several.database.psql("-c", change.format(databases.PASSWORD))
+    several.expect_all()
+
+
+def test_a_plant_that_is_not_added(several: Several) -> None:
+    several.database.psql("-c", "INSERT INTO plant.expected VALUES ('essen')")
+    several.expect_without("essen", "add.sql adds it")
+    several.database.psql("-c", "DELETE FROM plant.expected WHERE name = 'essen'")
+    several.expect_all()
+
+
+def test_no_plant_is_expected(several: Several) -> None:
+    saved = "CREATE TABLE saved AS TABLE plant.expected; DELETE FROM plant.expected"
+    several.database.psql("-c", saved)
+    told = several.ask(status=3)
+    assert told.rows == [] and "so no plant was asked" in told.said
+    several.database.psql("-c", "INSERT INTO plant.expected TABLE saved; DROP TABLE saved")
+
+
+def test_a_plant_without_the_views_is_not_added(several: Several) -> None:
+    """It has the tables of another version."""
+    older = databases.create(several.plants["cork"].server, "older", schema="")
+    older.psql("-c", "CREATE SCHEMA plant")
+    with pytest.raises(AssertionError, match="run schema.sql there"):
+        several.database.add(older)
+    several.expect_all()
+
+
+# --- What a plant lacks
+
+# what is changed, what takes it back, and what is said
+LACKS = {
+    "a file": (
+        "INSERT INTO lacking VALUES ('L1', 'archive-7', 'its checksum')",
+        "DELETE FROM lacking",
+        "brno: without L1 archive-7: its checksum",
+    ),
+    "a newer file": (
+        "UPDATE line SET oldest = '-1 day'",
+        "UPDATE line SET oldest = '1 day'",
+        "brno: without L1 newer pieces",
+    ),
+    "a piece in doubt": (
+        (
+            "INSERT INTO doubtful VALUES ('L1', 'B8', 'C1', 'M', '1', 5, 'R9', 'NEW', '{S1}',"
+            " '{OTHER}', 'late', 'archive-1', 'P')"
+        ),
+        "DELETE FROM doubtful",
+        "brno: doubtful piece of L1: C1 of board B8, 1970-01-01T00:05:00Z, may not be of R9",
+    ),
+}
+
+
+@pytest.mark.parametrize("name", LACKS)
+def test_what_a_plant_lacks_is_named(several: Several, name: str) -> None:
+    change, back, said = LACKS[name]
+    several.plants["brno"].change(change)
+    told = several.ask(status=3).said
+    several.plants["brno"].change(back)
+    assert said in told
+    several.ask()
+
+
+def test_a_plant_in_an_older_state_is_named(several: Several) -> None:
+    several.plants["cork"].change("INSERT INTO state DEFAULT VALUES")
+    several.ask()
+    newest = "number = (SELECT max(number) FROM state)"
+    several.plants["cork"].change(f"DELETE FROM state WHERE {newest}")
+    said = several.ask(status=3).said
+    assert "older state than at the last question: cork" in said
