@@ -1,5 +1,5 @@
 """Looks that the reports and the queries of this case, and what they give, are those of
-docs/recall.md.
+docs/recall-reference.md.
 """
 import csv
 import io
@@ -8,7 +8,7 @@ import pathlib
 import re
 
 HERE = pathlib.Path(__file__).resolve().parent
-page = (HERE.parents[1] / "docs/recall.md").read_text(encoding="utf-8")
+page = (HERE.parents[1] / "docs/recall-reference.md").read_text(encoding="utf-8")
 steps = json.loads((HERE / "case.json").read_text(encoding="utf-8"))["steps"]
 told = [
     list(it)

@@ -44,7 +44,7 @@ THERE = (
     "systemd,systemd-sysv,dbus,procps,iproute2,ca-certificates"
     ",nginx-light,openssl,curl,python3"  # docs/operations-install.md
     ",postgresql,python3-psycopg"  # docs/plant.md
-    ",python3-flask,python3-waitress,weasyprint,python3-xlsxwriter"  # docs/recall.md
+    ",python3-flask,python3-waitress,weasyprint,python3-xlsxwriter"  # docs/recall-setup.md
     ",jq"  # docs/machines.md
     ",python3-pytest"
 )
