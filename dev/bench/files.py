@@ -27,7 +27,7 @@ import threading
 import time
 from collections.abc import Iterator, Sequence
 
-import starts
+from bench import starts
 from tracedesk_dev import program
 from tracedesk_dev.ports import lent
 

@@ -118,7 +118,7 @@ def shown(record: untraced.Record) -> dict[str, Any]:
 
 
 def write_status(folder: pathlib.Path, records: list[untraced.Record]) -> None:
-    """Writes what the station's screens read: what is untraced.undecided, and the ids of what was decided
+    """Writes what the station's screens read: what is undecided, and the ids of what was decided
     last.
     """
     told = {
