@@ -17,6 +17,7 @@ from lab.tools import run, started
 from lab.waits import PATIENCE, stays, wait_for
 from tracedesk_dev.ports import free_port
 from tracedesk_ops import service
+from tracedesk_ops.line import LineFolder
 
 AS_IT_WAS = "the old desk is as it was"
 FAULTS = {
@@ -93,7 +94,7 @@ def test_sigterm_puts_all_back(half: Line, shifted: Shifted, folder: pathlib.Pat
     program = wrapped(folder, half.program, "feed", "while true; do sleep 0.1; done")
     chain = {"CHAIN": str(program.with_name("tracedesk-chain"))}
     tool = started(half.rollover_words(program=program), env=chain)
-    messages = half.folder / "work/messages"
+    messages = LineFolder(half.folder).work / "messages"
     wait_for("the new desk is begun", lambda: messages.exists() or tool.poll() is not None)
     tool.terminate()
     _, said = tool.communicate(timeout=PATIENCE)

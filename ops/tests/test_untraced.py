@@ -73,7 +73,7 @@ def test_of_two_decisions_of_one_second_the_board_stays_in_recalls(
     archive: pathlib.Path, monkeypatch: pytest.MonkeyPatch, became: str
 ) -> None:
     """Whichever of them has the smaller id: both wait when they are collected."""
-    monkeypatch.setattr(untraced, "now", lambda: REFUSED_AT)
+    monkeypatch.setattr(collecting, "now", lambda: REFUSED_AT)
     its = [it.id for it in untraced.undecided(untraced.read(archive).records)]
     with monkeypatch.context() as not_yet:
         not_yet.setattr(untraced, "collect", lambda archive: None)

@@ -251,17 +251,27 @@ def words() -> argparse.Namespace:
     readers["restore"].add_argument("file", nargs="?", default="", metavar="FILE")
     readers["restore"].add_argument("--dry-run", action="store_true", help="print what it will do")
     offer_rollover(readers["rollover"])
-    asked = reader.parse_args()
+    asked = parsed(reader)
     if not asked.line.path.is_dir():
         reader.error(f"there is no folder {asked.line.path}")
     try:
         readers[asked.subcommand].set_defaults(**set_up_of(asked.line))
     except places.NotSetUp as fault:
         reader.error(str(fault))
-    asked = options.find_program(reader, reader.parse_args())
+    asked = options.find_program(reader, parsed(reader))
     asked.chain = plant.chain_of(asked.program)
     if asked.subcommand == "rollover" and not (asked.chain or asked.due):
         reader.error(f"there is no tracedesk-chain next to {asked.program}: CHAIN names it")
+    return asked
+
+
+def parsed(reader: argparse.ArgumentParser) -> argparse.Namespace:
+    """The words; a FILE may be behind an option, which argparse doesn't take."""
+    asked, more = reader.parse_known_args()
+    if more and getattr(asked, "file", None) == "" and not more[0].startswith("-"):
+        asked.file = more.pop(0)
+    if more:
+        reader.error(f"unrecognized arguments: {' '.join(more)}")
     return asked
 
 

@@ -48,7 +48,7 @@ UID = "SELECT uid FROM accepted WHERE number = ?"
 # answer to the marker on the desk waits. A tool that is stuck in the kernel, as at a disk that is
 # gone, dies later: so the connection, which comes with a letter, is ended before.
 WATCHDOG = """
-import os, select, signal, socket, sys
+import contextlib, os, select, signal, socket, sys
 said = socket.socket(fileno=0)
 limits = dict(a=float(sys.argv[2]), h=float(sys.argv[3]), f=None)
 limit, link, awaited = None, None, []
@@ -63,7 +63,8 @@ while ready := select.select([said, *awaited], [], [], limit)[0]:
     if links:
         link = socket.socket(fileno=links[0])
     limit, awaited = limits[letter.decode()], [link] if letter == b"a" else []
-link.shutdown(socket.SHUT_RDWR)
+with contextlib.suppress(OSError):  # the desk may have ended it
+    link.shutdown(socket.SHUT_RDWR)
 os.kill(int(sys.argv[1]), signal.SIGKILL)
 """
 

@@ -30,7 +30,7 @@ KEPT = 3  # of the newest files, also those that another one continues
 # What a sender said. The clock changes no answer, and nobody has to send it again.
 SAID = """
     CREATE TEMP TABLE wanted (uid TEXT, source TEXT, own INTEGER, command TEXT, minute INTEGER,
-        file TEXT, PRIMARY KEY (uid, source, own, command)) WITHOUT ROWID"""
+        file INTEGER, PRIMARY KEY (uid, source, own, command)) WITHOUT ROWID"""
 WANT = """
     INSERT OR IGNORE INTO wanted SELECT uid, source, own, command, effective, ?
     FROM other.accepted WHERE number > ? AND command <> 'ClockSet'"""
@@ -219,15 +219,15 @@ def lacking(members: Sequence[Sealed], others: Sequence[Sealed]) -> list[Lacked]
     try:
         with sealed.opened(members[-1].path) as database:
             database.execute(SAID)
-            for file in others:
+            for place, file in enumerate(others):
                 if file.digits not in digits:
                     with sealed.attached(database, file.path):
                         begun = sealed.begun_with(database, file.begun, "other")
-                        database.execute(WANT, [str(file.path), begun])
+                        database.execute(WANT, [place, begun])
             for file in reversed(members):
                 with sealed.attached(database, file.path):
                     database.execute(FOUND)
             rows = database.execute(LEFT).fetchall()
     except sqlite3.Error as fault:
         raise sealed.Damaged(f"what the chain lacks can't be found: {fault}") from fault
-    return [Lacked(Path(row[0]), *row[1:]) for row in rows]
+    return sorted(Lacked(others[row[0]].path, *row[1:]) for row in rows)

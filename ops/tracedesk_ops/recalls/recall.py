@@ -142,12 +142,26 @@ class Recall:
     def survey(self, line: Line) -> None:
         """Looks at a line's folder: what nobody asks, or can ask, is a fault."""
         self.stamps[line.name] = around.stamp(line_of(line))
-        self.surveys[line.name] = survey = around.survey(line_of(line), line.name)
+        survey = around.survey(line_of(line), line.name)
+        if survey.last and line.url and self.went_on(line, survey.last):
+            survey = survey._replace(archives=[*survey.archives, survey.last], last=None)
+        self.surveys[line.name] = survey
         self.faults += survey.faults
         if not line.folder.is_dir():
             self.faults.append(f"{line.folder}: there is no such folder: mount its disk")
         elif not survey.archives:
             self.notes.append(f"{line.name}: no archives yet in {line.folder}")
+
+    def went_on(self, line: Line, file: catalogue.Archive) -> bool:
+        """Whether the running desk was begun from a file. The folder says so itself if the desk's
+        file is at hand.
+        """
+        if line_of(line).desk.exists():
+            return False
+        desk = self.desks.setdefault(line.name, self.desk_of(line))
+        with contextlib.suppress(plant.Fault):
+            return desk.has(model.first_uid(file.sha256))
+        return False
 
     def archives(
         self, line: Line, waits: list[Wait], proof: concurrent.futures.Future[chains.Answer] | None

@@ -139,7 +139,8 @@ class Meant(NamedTuple):
 def files_of(line: Line) -> Iterator[tuple[pathlib.Path, bool]]:
     """The archives of a line, and the running desk's file."""
     survey = around.survey(LineFolder(line.folder), line.name, sealed.named)
-    last = [survey.last] if survey.last and not line.url else []
+    is_here = LineFolder(line.folder).desk.exists()
+    last = [survey.last] if survey.last and not is_here else []
     for archive in (*survey.archives, *last):
         yield catalogue.path_of(line.folder, archive), False
     if line.url:
