@@ -76,7 +76,7 @@ def test_of_two_decisions_of_one_second_the_board_stays_in_recalls(
     monkeypatch.setattr(collecting, "now", lambda: REFUSED_AT)
     its = [it.id for it in untraced.undecided(untraced.read(archive).records)]
     with monkeypatch.context() as not_yet:
-        not_yet.setattr(untraced, "collect", lambda archive: None)
+        not_yet.setattr(collecting, "collect", lambda archive: None)
         for number in range(16):
             order = [became, untraced.SCRAPPED][:: 1 if number % 2 else -1]
             for word in order:

@@ -25,13 +25,14 @@ def hindrances(desk: Path, audit: sealing.Audit) -> list[str]:
     file = str(desk)
     if nothing := outside.no_file(file):
         return [nothing.text()]
-    if os.access(desk, os.R_OK, effective_ids=True):
+    can_read = os.access(desk, os.R_OK, effective_ids=True)
+    if can_read:
         if others := [its.text() for its in outside.in_use(file)]:
             return others
         if plant.is_open(desk):
             return []
     found = [*outside.outside(file)]
-    if nothing := outside.no_database(file):
+    if can_read and (nothing := outside.no_database(file)):
         found.append(nothing)
     return [finding.text() for finding in found] or [*unlawful(desk, audit)]
 

@@ -45,9 +45,14 @@ class Checked:
         }
 
     def check(self) -> list[str]:
-        """Why the program can't run over the file."""
-        program = plant.Program(str(self.program), self.file)
-        return self.unchanged(lambda: check.hindrances(self.file, program.audit))
+        """Why the program can't run over the file; the tool works as the owner of its folder."""
+
+        def asked() -> list[str]:
+            with plant.as_owner(self.file):
+                program = plant.Program(str(self.program), self.file)
+                return check.hindrances(self.file, program.audit)
+
+        return self.unchanged(asked)
 
     def unchanged(self, call: Callable[[], list[str]]) -> list[str]:
         """What a check says; nothing in the file's folder may be another afterwards."""
