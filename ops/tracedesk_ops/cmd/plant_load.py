@@ -155,6 +155,8 @@ class Loading:
         except sealed.FilesFault as fault:
             members, faults = around.begun_from(there), [str(fault)]
             tops = [file for file in lineage.tops(there, lost) if file not in members]
+            if isinstance(fault, lineage.Missing):  # an older one isn't the newest
+                tops = [file for file in tops if file.begun] or tops
             newest, is_chain = tops if len(tops) == 1 else [], False
             members += newest
         off = off_chain(members, [*there, *lost])
