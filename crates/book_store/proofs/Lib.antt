@@ -1,0 +1,10 @@
+pub mod Cleaning
+pub mod Ending
+pub mod Finding
+pub mod Hearing
+pub mod InTurn
+pub mod Loading
+pub mod Noting
+pub mod Places
+pub mod Until
+pub mod WholeBook

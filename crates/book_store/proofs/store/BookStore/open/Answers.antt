@@ -1,0 +1,13 @@
+use Rattle.line_schema.specs.Book.{disowned}
+use Rattle.book_store.proofs.store.BookStore.open.Goals as goal
+
+pub returns-in-Ok-clause-opened : goal.returns-in-Ok-clause-opened
+returns-in-Ok-clause-opened g c L stands = record {
+  named = c.in-Ok.ensures.named L stands;
+  lists = λ place clean own.
+      let both = c.in-Ok.ensures.lists L stands place clean own in
+      (both.rows, both.notes, record { both = both.both; read = both.read; guard = both.guard });
+}
+
+pub returns-in-Ok-clause-serves : goal.returns-in-Ok-clause-serves
+returns-in-Ok-clause-serves g c L stands = (disowned L, c.find_book.ensures.kept L stands)

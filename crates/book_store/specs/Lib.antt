@@ -1,0 +1,5 @@
+pub mod Ended
+pub mod Heard
+pub mod Lists
+pub mod Opened
+pub mod Restored

@@ -1,0 +1,10 @@
+//! A line's file with both lists: the history of accepted commands, and the book. The store says which
+//! machines may work, by the two lists alone.
+#![tactic(auto)]
+
+mod fault;
+mod restoring;
+mod store;
+
+pub use fault::NoteFault;
+pub use store::{BookStore, Heard};

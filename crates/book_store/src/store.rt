@@ -1,0 +1,68 @@
+//! The store of both lists.
+
+ghost use Rattle.std.specs.Prelude.{◌≡◌, ◌↔◌, [], IfOk};
+ghost use Rattle.sqlite.specs.State.{Survives};
+ghost use Rattle.line_book.specs.Causes.{causes};
+ghost use Rattle.line_book.specs.Go.{MayWork};
+ghost use Rattle.book_store.specs.Lists.{ForLists, Serves, StandsFor, book_state};
+
+mod hearing;
+mod noting;
+mod opening;
+
+use desk_types::Id;
+pub use hearing::Heard;
+use line_book::{Cause, Guard, Reading};
+use line_schema::{LineStore, Unavailable};
+use sqlite::Alter;
+use state_rows::KeepsRows;
+use std::alloc::Global;
+
+/// A line's file with both lists: accepted commands with their tables, and the book. Its guard says
+/// which machines may work.
+pub struct BookStore<S: Alter, D: KeepsRows + Drop> {
+    alloc: Global,
+    store: LineStore<S, D>,
+    reading: Reading,
+    guard: Option<Guard>,
+}
+
+impl<S: Alter, D: KeepsRows + Drop> BookStore<S, D> {
+    /// Returns the store of the history, with its connection. Takes no memory.
+    pub fn into_store(self) -> LineStore<S, D>
+        ensures { result ≡ self.store }
+    {
+        let BookStore {
+            alloc: _,
+            store,
+            reading: _,
+            guard: _guard,
+        } = self;
+        store
+    }
+
+    /// Returns all causes why the machine may not work, by both lists alone. Loads the desk first if it
+    /// isn't loaded.
+    pub fn causes(&mut self, machine: &Id) -> Result<Vec<Cause>, Unavailable>
+        requires serves { Serves S.Store D.Stands self.old }
+        ensures all { ForLists S.Store D.Stands self.old self.new (λ L.
+            IfOk result (λ found. found.items ≡ causes L.kept.history L.notes machine.now)) }
+        // There is no cause exactly if the machine may work.
+        ensures exact { ForLists S.Store D.Stands self.old self.new (λ L. IfOk result
+            (λ found. found.items ≡ [] ↔ MayWork L.kept.history L.notes machine.now)) }
+        ensures stands { ForLists S.Store D.Stands self.old self.new
+            (StandsFor S.Store D.Stands self.new) }
+        ensures survives { Survives (book_state S.Store self.old) (book_state S.Store self.new)
+            (λ _. ⊥) }
+        ensures serves { Serves S.Store D.Stands self.new }
+    {
+        self.store.ready()?;
+        let Some(desk) = self.store.desk() else {
+            return Err(Unavailable);
+        };
+        let Some(guard) = &self.guard else {
+            return Err(Unavailable);
+        };
+        Ok(guard.causes(self.alloc, desk, machine)?)
+    }
+}
