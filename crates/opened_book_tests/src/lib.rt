@@ -1,0 +1,5 @@
+//! Stores of both lists, at run time.
+#![tactic(auto)]
+
+#[cfg(test)]
+mod tests;
