@@ -49,6 +49,13 @@ def test_what_is_not_taken_is_set_aside(lab: Lab) -> None:
     assert lab.send("--drop", "000000000003").returncode == 2
 
 
+@pytest.mark.parametrize("words", [("--list", "all"), ("--show", "sent"), ("--again", "all")])
+def test_who_only_looks_makes_no_spool(lab: Lab, words: tuple[str, str]) -> None:
+    done = lab.send(*words)
+    assert (done.returncode, done.stdout) == (2, b""), done.stderr
+    assert b"there is no spool" in done.stderr and not lab.spool.exists()
+
+
 def test_a_run_stops_at_a_refusal_where_that_is_told(lab: Lab) -> None:
     lab.send("--put", "-", given=line("bad1") + b"\n" + line("u2"))
     for _ in range(2):

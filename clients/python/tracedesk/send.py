@@ -147,6 +147,12 @@ def name_of(asked: argparse.Namespace) -> str:
 
 
 def spool_of(asked: argparse.Namespace) -> spool.Spool:
+    """The spool, which is made by what puts messages in. Who only looks makes none: it would belong
+    to another user than the sender's.
+    """
+    only_looks = asked.list or asked.show or asked.again or asked.drop or asked.release
+    if only_looks and not os.path.exists(asked.spool):
+        raise disk.SpoolError(f"there is no spool {asked.spool}: the sender makes it, or --put")
     most = round(asked.keep_mib * (1 << 20))
     return spool.Spool(asked.spool, asked.keep_days, most, name_of(asked))
 
