@@ -80,7 +80,7 @@ def test_a_restore_brings_a_desk_back(machine: Machine) -> None:
     assert "/var/lib/tracedesk/lost/" in said
     machine.shell("mv /var/lib/tracedesk/lost /root/lost")
     machine.shell(f"{LOT} > /dev/null 2>&1")
-    oldest = f"$(ls -t {ARCHIVE}/*.desk | tail -n 1)"
+    oldest = machine.shell(f"ls -t {ARCHIVE}/*.desk | tail -n 1").strip()  # before it is changed
     machine.shell(f"cp {oldest} /root/kept; printf x | dd of={oldest} bs=1 seek=50000 conv=notrunc")
     assert "was changed" in machine.shell("! tracedesk-ops check L1 2>&1")
     machine.shell(f"cat /root/kept > {oldest}; tracedesk-ops check L1")
