@@ -67,8 +67,10 @@ def test_a_line_that_this_user_may_not_look_into_stops_no_other(
     monkeypatch.setattr(pathlib.Path, "is_dir", refused)
     set_up("L1", line="L1", port=8081)
     set_up("L2", line="L2", db="/srv/l2/desk", port=8082)
-    first, other = places.lines()
+    set_up("L3", line="L3")
+    first, other, packages = places.lines()
     assert (first.db, other.db) == (home / "L1" / "desk", pathlib.Path("/srv/l2/desk"))
+    assert (packages.db, packages.port) == (places.DESK, 8080)
 
 
 @pytest.mark.parametrize(

@@ -56,7 +56,7 @@ class Places:
 
 def of_words(words: dict[str, str]) -> Places:
     """The places that a set-up file of these words names."""
-    db = Path(words.get("db", desk_of(words.get("line", ""))))
+    db = Path(words.get("db", desk_of(words)))
     port = words.get("port", str(PORT))
     return Places(
         line=words.get("line", ""),
@@ -69,19 +69,21 @@ def of_words(words: dict[str, str]) -> Places:
     )
 
 
-def desk_of(line: str) -> Path:
-    """The desk of a line, if nobody says: in the line's folder, or the package's one."""
-    return HOME / line / DESK.name if line and is_folder(HOME / line) else DESK
-
-
-def is_folder(path: Path) -> bool:
-    """Whether a folder is there. One that this user may not look into is somebody's line: a tool
-    for another line goes on.
+def desk_of(words: dict[str, str]) -> Path:
+    """The desk of a line, if nobody says: in the line's folder, or the package's one. For a user
+    who may not look there, a line is a folder if it has a port: each folder of a line has its own.
     """
+    folder = HOME / words.get("line", "")
+    is_line = folder != HOME and is_folder(folder, "port" in words)
+    return folder / DESK.name if is_line else DESK
+
+
+def is_folder(path: Path, unseen: bool = True) -> bool:
+    """Whether a folder is there; `unseen` says it for a user who may not look."""
     try:
         return path.is_dir()
     except PermissionError:
-        return True
+        return unseen
 
 
 def lines() -> list[Places]:
