@@ -154,10 +154,7 @@ class Loading:
             faults = [its.text() for its in lineage.lacking(members, [*lost, *there])]
         except sealed.FilesFault as fault:
             members, faults = around.begun_from(there), [str(fault)]
-            tops = [file for file in lineage.tops(there, lost) if file not in members]
-            if isinstance(fault, lineage.Missing):  # an older one isn't the newest
-                tops = [file for file in tops if file.begun] or tops
-            newest, is_chain = tops if len(tops) == 1 else [], False
+            newest, is_chain = newest_of(there, lost, members), False
             members += newest
         off = off_chain(members, [*there, *lost])
         seen = [seen_of(file, name, "", off) for file in members if file not in newest]
@@ -183,6 +180,19 @@ class Loading:
                 if is_whole:
                     self.refuse(fault)
                 self.tables.miss(name, LOOK, fault)
+
+
+def newest_of(
+    there: Sequence[Sealed], lost: Sequence[Sealed], members: Sequence[Sealed]
+) -> list[Sealed]:
+    """The newest file of a chain that isn't whole: the only one that no other continues, or the
+    only one of these that was begun from a missing file; else none.
+    """
+    digits = {file.digits for file in there}
+    tops = [file for file in lineage.tops(there, lost) if file not in members]
+    if len(tops) > 1:
+        tops = [file for file in tops if file.begun and file.begun not in digits]
+    return tops if len(tops) == 1 else []
 
 
 def seen_of(file: Sealed, line: str, when: str, off: frozenset[str]) -> Seen:
