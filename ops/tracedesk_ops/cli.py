@@ -268,11 +268,10 @@ def words() -> argparse.Namespace:
 def parsed(reader: argparse.ArgumentParser) -> argparse.Namespace:
     """The words; a FILE may be behind an option, which argparse doesn't take."""
     asked, more = reader.parse_known_args()
-    if more and getattr(asked, "file", None) == "" and not more[0].startswith("-"):
-        asked.file = more.pop(0)
-    if more:
-        reader.error(f"unrecognized arguments: {' '.join(more)}")
-    return asked
+    if len(more) == 1 and getattr(asked, "file", None) == "" and not more[0].startswith("-"):
+        asked.file = more[0]
+        return asked
+    return reader.parse_args()
 
 
 def offer_rollover(reader: argparse.ArgumentParser) -> None:
