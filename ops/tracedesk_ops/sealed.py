@@ -181,13 +181,14 @@ def begun_in(path: Path) -> str:
 
 
 def begun_with(database: sqlite3.Connection, digits: str, schema: str) -> int:
-    """How many commands a desk has from its beginning alone: they are numbered in their
-    UniqueIDs.
+    """How many commands a desk has from its beginning, with the UniqueIDs that it was told then:
+    the last one is the beginning's own, and has its number in its UniqueID.
     """
     if not digits:
         return 0
-    query = f"""SELECT coalesce(min(number) FILTER (WHERE uid <> ? || number), max(number) + 1) - 1
-        FROM {schema}.accepted"""
+    query = f"""SELECT coalesce(max(number), 0) FROM {schema}.accepted
+        WHERE uid BETWEEN ?1 AND ?1 || ':' AND uid = ?1 || number
+        AND source = (SELECT source FROM {schema}.accepted WHERE number = 1)"""
     return int(database.execute(query, [f"begin-{digits}-"]).fetchone()[0])
 
 
