@@ -36,12 +36,15 @@ LONG_HEAD = f"-H \"X: $(head -c 40000 /dev/zero | tr '\\0' x)\" {URL}/overdue"
 MANY_CLIENTS = r"""
 import base64, http.client, socket, ssl, time
 trust = ssl.create_default_context(cafile="/etc/tracedesk/server.crt")
-key = base64.b64encode(b"m1:" + open("/etc/tracedesk/m1.password", "rb").read().strip()).decode()
+def key_of(user):  # office asks alone: each log-in has one report at a time, and m1 has a sender
+    password = open(f"/etc/tracedesk/{user}.password", "rb").read().strip()
+    return base64.b64encode(user.encode() + b":" + password).decode()
+key = key_of("m1")
 head = f"Host: desk.plant\r\nAuthorization: Basic {key}\r\nContent-Type: application/json\r\n"
 
 def ask(links, times):
     for link in links * times:
-        link.request("GET", "/overdue", headers={"Authorization": "Basic " + key})
+        link.request("GET", "/overdue", headers={"Authorization": "Basic " + key_of("office")})
         answer = link.getresponse()
         answer.read()
         told.append(answer.status)
