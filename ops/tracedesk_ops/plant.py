@@ -4,6 +4,7 @@ from __future__ import annotations
 import contextlib
 import ctypes
 import fcntl
+import functools
 import io
 import os
 import pathlib
@@ -101,6 +102,10 @@ def chain_of(program: str) -> str | None:
     return next(filter(None, map(shutil.which, [named] if named else beside)), None)
 
 
+class BySignal(Fault):
+    """A signal that ends the tool."""
+
+
 def ends_by_exception() -> None:
     """Lets SIGTERM and SIGHUP end the tool as a fault does, so that all is put back."""
     numbers = signal.SIGTERM, signal.SIGHUP
@@ -110,10 +115,24 @@ def ends_by_exception() -> None:
             signal.signal(
                 it, lambda *_: None
             )  # what is ignored, the service that is started would ignore too
-        raise Fault(f"it was stopped by {signal.Signals(number).name}")
+        raise BySignal(f"it was stopped by {signal.Signals(number).name}")
 
+    def again(dropped: sys.UnraisableHookArgs) -> None:
+        """Python drops what is raised within a fork or a finalizer: it is raised once more."""
+        fault = dropped.exc_value
+        if not isinstance(fault, BySignal):
+            sys.__unraisablehook__(dropped)
+            return
+        signal.signal(signal.SIGALRM, functools.partial(raised, fault))
+        signal.setitimer(signal.ITIMER_REAL, 0.01)
+
+    sys.unraisablehook = again
     for number in numbers:
         signal.signal(number, end)
+
+
+def raised(fault: Fault, *_: object) -> None:
+    raise fault
 
 
 def want_one_name(db: pathlib.Path) -> None:
