@@ -1,3 +1,4 @@
+pub mod Accepting
 pub mod Cleaning
 pub mod Ending
 pub mod Finding

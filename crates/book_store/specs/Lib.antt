@@ -1,3 +1,4 @@
+pub mod Accepted
 pub mod Ended
 pub mod Heard
 pub mod Lists

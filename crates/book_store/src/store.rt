@@ -6,6 +6,7 @@ ghost use Rattle.line_book.specs.Causes.{causes};
 ghost use Rattle.line_book.specs.Go.{MayWork};
 ghost use Rattle.book_store.specs.Lists.{ForLists, Serves, StandsFor, book_state};
 
+mod accepting;
 mod hearing;
 mod noting;
 mod opening;

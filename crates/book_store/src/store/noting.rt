@@ -1,6 +1,6 @@
 //! An entry of the book.
 
-ghost use Rattle.std.specs.Prelude.{◌≡◌, ◌++◌, ◌∷◌, [], IfOk, IfSome};
+ghost use Rattle.std.specs.Prelude.{◌≡◌, ◌++◌, ◌∷◌, [], IfErr, IfOk, IfSome};
 ghost use Rattle.sqlite.specs.State.{HasCleanDisk};
 ghost use Rattle.desk_types.specs.History.{History};
 ghost use Rattle.line_book.specs.Book.{Book};
@@ -8,6 +8,7 @@ ghost use Rattle.line_book.specs.declared.note.Note.{Note as Entry};
 ghost use Rattle.line_book.specs.Guard.{IsGuard, IsNextNote};
 ghost use Rattle.line_book.specs.Rows.{read_on};
 ghost use Rattle.line_book_store.specs.Checking.{IsRead};
+ghost use Rattle.book_store.specs.Accepted.{RefusesRow};
 ghost use Rattle.book_store.specs.Ended.{Ends, with_note};
 ghost use Rattle.book_store.specs.Lists.{ForLists, Lists, Serves, book_state};
 
@@ -34,10 +35,7 @@ impl<S: Alter, D: KeepsRows + Drop> BookStore<S, D> {
         ensures serves { Serves S.Store D.Stands self.new }
     {
         let mut reading = self.reading;
-        let entry = read_next(self.alloc, &mut reading, row)?;
-        if entry.after != self.store.count() {
-            return Err(NoteFault::NoEntry(RowFault::WrongPlace));
-        }
+        let entry = read_placed(self.alloc, &mut reading, self.store.count(), row)?;
         self.store.note(row)?;
         self.reading = reading;
         take_in(&mut self.guard, &entry);
@@ -45,18 +43,27 @@ impl<S: Alter, D: KeepsRows + Drop> BookStore<S, D> {
     }
 }
 
-fn read_next(alloc: Global, reading: &mut Reading, row: &BookRow) -> Result<Note, NoteFault>
-    ensures { IfOk result (λ n. IsRead reading.old row.now n
+/// Reads a row as the next entry, after so many commands.
+pub fn read_placed(
+    alloc: Global,
+    reading: &mut Reading,
+    place: u32,
+    row: &BookRow,
+) -> Result<Note, NoteFault>
+    ensures read { IfOk result (λ n. IsRead reading.old row.now n
         × (reading.new ≡ read_on reading.old n)) }
+    ensures placed { IfOk result (λ n. n.after ≡ place) }
+    ensures err { IfErr result (RefusesRow reading.old place row.now) }
 {
     match reading.next(alloc, row)? {
-        Ok(note) => Ok(note),
+        Ok(note) if note.after == place => Ok(note),
+        Ok(_) => Err(NoteFault::NoEntry(RowFault::WrongPlace)),
         Err(fault) => Err(NoteFault::NoEntry(fault)),
     }
 }
 
 /// Takes in an entry. Drops the guard if memory is refused.
-fn take_in(guard: &mut Option<Guard>, note: &Note)
+pub fn take_in(guard: &mut Option<Guard>, note: &Note)
     ensures { (H : History) (B : Book) → IfSome guard.old (IsGuard H B) → IsNextNote H B note.now
         → IfSome guard.new (IsGuard H (B ++ note.now ∷ [])) }
 {

@@ -12,10 +12,10 @@ pub returns-clause-noted : goal.returns-clause-noted
 returns-clause-noted g c L was clean own =
     let row = c.args.row.now in
     let n = c.in_ok-entry.entry in
-    let is = c.in_ok-entry.ensures.0 in
+    let is = c.in_ok-entry.ensures.read.0 in
     let next = next_row _ L.rows L.notes c.args.self.now.reading was.read row n is in
     let placed : n.after ≡ length L.kept.history = omega
-    (arith, c.if-entry-count.false, c.count.ensures L.kept was.both.stands) in
+    (arith, c.in_ok-entry.ensures.placed, c.count.ensures L.kept was.both.stands) in
     record {
       ok = (
         with_note L row n,
@@ -23,7 +23,7 @@ returns-clause-noted g c L was clean own =
         record {
           both = c.in_ok-note.ensures.ok L.kept L.rows was.both next;
           read = subst (λ r. AreRead (first_reading (length L.kept.history)) (L.rows ++ row ∷ [])
-              (L.notes ++ n ∷ []) r) (sym c.in_ok-entry.ensures.1)
+              (L.notes ++ n ∷ []) r) (sym c.in_ok-entry.ensures.read.1)
               (one_more _ L.rows L.notes c.args.self.now.reading was.read row n is);
           guard = c.take_in.ensures L.kept.history L.notes was.guard
               (next_note _ L.rows L.notes c.args.self.now.reading was.read L.kept.history row n is placed);
@@ -39,7 +39,7 @@ pub returns-in_err-note-clause-noted : goal.returns-in_err-note-clause-noted
 returns-in_err-note-clause-noted g c L was clean own =
     let row = c.args.row.now in
     let n = c.in_ok-entry.entry in
-    let is = c.in_ok-entry.ensures.0 in
+    let is = c.in_ok-entry.ensures.read.0 in
     let next = next_row _ L.rows L.notes c.args.self.now.reading was.read row n is in
     let told = err_from_is_err_and c.from_residual-in_err-note.result c.from_residual-in_err-note.ensures.1 in
     ends_told g.S.Store g.D.Desk.Stands c.args.self.now (record c.args.self.now { store = c.note.new.self }) L _
@@ -52,16 +52,18 @@ returns-in_err-note-clause-noted g c L was clean own =
 
 pub returns-clause-clean : goal.returns-clause-clean
 returns-clause-clean g c clean =
-    clean_still g.S.Store g.D.Desk.Stands c.args.self.now.store c.note.new.self c.args.row.now _
-    (row_follows c.args.self.now.reading c.args.row.now c.in_ok-entry.entry c.in_ok-entry.ensures.0).0
-    (λ L rows was next own. (_, c.note.ensures.crash L rows was next own)) c.requires.serves.0
+    clean_still g.S.Store g.D.Desk.Stands c.args.self.now.store c.note.new.self _ (c.args.row.now ∷ []) (
+      (row_follows c.args.self.now.reading c.args.row.now c.in_ok-entry.entry c.in_ok-entry.ensures.read.0).0,
+      tt,
+    ) (λ L rows was on own. (_, c.note.ensures.crash L rows was on.0 own)) c.requires.serves.0
     c.requires.serves.1 clean
 
 pub returns-in_err-note-clause-clean : goal.returns-in_err-note-clause-clean
 returns-in_err-note-clause-clean g c clean =
-    clean_still g.S.Store g.D.Desk.Stands c.args.self.now.store c.note.new.self c.args.row.now _
-    (row_follows c.args.self.now.reading c.args.row.now c.in_ok-entry.entry c.in_ok-entry.ensures.0).0
-    (λ L rows was next own. (_, c.note.ensures.crash L rows was next own)) c.requires.serves.0
+    clean_still g.S.Store g.D.Desk.Stands c.args.self.now.store c.note.new.self _ (c.args.row.now ∷ []) (
+      (row_follows c.args.self.now.reading c.args.row.now c.in_ok-entry.entry c.in_ok-entry.ensures.read.0).0,
+      tt,
+    ) (λ L rows was on own. (_, c.note.ensures.crash L rows was on.0 own)) c.requires.serves.0
     c.requires.serves.1 clean
 
 pub returns-in_err-note-clause-serves : goal.returns-in_err-note-clause-serves
