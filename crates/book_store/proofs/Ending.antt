@@ -24,18 +24,23 @@ module _ {S D : Type 0} (g : Ghosts S) (F : D → Basis → Type 0) (old new : B
   ends_failed e Are nothing stands = record { ok = tt; err = stands; crash = λ trees may. inl (nothing trees may) }
 
   -- The same, told by another result.
-  pub ends_ok : {A B E G : Type 0} (a : A) (b : B) (Are : A → Lists → Type 0) (Then : B → Lists → Type 0) →
-      ((x : A) (M : Lists) → Are x M → Then b M) → Ends {E = E} g F old new L (Ok a) Are
-      → Ends {E = G} g F old new L (Ok b) Then
-  ends_ok a b Are Then then ends = record {
+  pub ends_by : {A B E G : Type 0} (f : A → B) (a : A) (Are : A → Lists → Type 0) (Then : B → Lists → Type 0) →
+      ((x : A) (M : Lists) → Are x M → Then (f x) M) → Ends {E = E} g F old new L (Ok a) Are
+      → Ends {E = G} g F old new L (Ok (f a)) Then
+  ends_by f a Are Then then ends = record {
     ok = (ends.ok.0, then a ends.ok.0 ends.ok.1, ends.ok.2, ends.ok.3);
     err = tt;
     crash = λ trees may. elim (ends.crash trees may) [
       | inl was ↦ inl was
       | inr left ↦ inr
-          (b, left.1, then left.0 left.1 left.2, left.3)
+          (f left.0, left.1, then left.0 left.1 left.2, left.3)
     ];
   }
+
+  pub ends_ok : {A B E G : Type 0} (a : A) (b : B) (Are : A → Lists → Type 0) (Then : B → Lists → Type 0) →
+      ((x : A) (M : Lists) → Are x M → Then b M) → Ends {E = E} g F old new L (Ok a) Are
+      → Ends {E = G} g F old new L (Ok b) Then
+  ends_ok a b Are Then = ends_by (λ _. b) a Are Then
 
   pub ends_err : {A B E G : Type 0} (e : E) (f : G) (Are : A → Lists → Type 0) (Then : B → Lists → Type 0) →
       ((x : A) (M : Lists) → Are x M → (b : B) × Then b M) → Ends g F old new L (Err e) Are → Ends g F old new L

@@ -1,10 +1,9 @@
 -- What both lists keep of a message.
-use Rattle.desk_types.proofs.Common.{◌≡◌, ◌≢◌, ap, Err, false, List, None, Ok, Option, option_map, refl, Result}
+use Rattle.desk_types.proofs.Common.{◌≡◌, ◌≢◌, ap, Err, false, List, None, Ok, Option, option_map, refl}
 use Rattle.desk_types.proofs.Common.{Some, subst, sym, true, ℕ, MatchBool, ◌∙◌}
 use Rattle.desk_laws.proofs.Common.{Stamped}
 use Rattle.cfx_profile.specs.declared.fault.MessageFault.{MessageFault}
 use Rattle.cfx_profile.specs.declared.fault.MessageFault.TheVariants.{NoMemory}
-use Rattle.cfx_profile.specs.declared.message.Said.{Said}
 use Rattle.cfx_profile.specs.declared.message.Said.TheVariants as said
 use Rattle.cfx_profile.specs.Message.{said_in}
 use Rattle.line_book.specs.declared.note.Matter.{Matter}

@@ -1,4 +1,5 @@
 pub mod Accepting
+pub mod Answering
 pub mod Cleaning
 pub mod Ending
 pub mod Finding

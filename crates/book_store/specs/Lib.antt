@@ -1,4 +1,5 @@
 pub mod Accepted
+pub mod Answered
 pub mod Ended
 pub mod Heard
 pub mod Lists

@@ -1,4 +1,4 @@
-//! A message that is heard: its answer, with the entry of what was refused or can't be read.
+//! A message that is heard or answered, with the entry of what was refused or can't be read.
 
 ghost use Rattle.std.specs.Prelude.{◌≡◌, IfOk};
 ghost use Rattle.sqlite.specs.State.{HasCleanDisk, Survives};
@@ -6,6 +6,7 @@ ghost use Rattle.desk_types.specs.StoredText.{stored_text};
 ghost use Rattle.line_entries.specs.Refusal.{refused};
 ghost use Rattle.line_entries.specs.Rows.{note_at};
 ghost use Rattle.line_entries.specs.Told.{told_text};
+ghost use Rattle.book_store.specs.Answered.{Answers, AnswersCommand};
 ghost use Rattle.book_store.specs.Ended.{Ends};
 ghost use Rattle.book_store.specs.Heard.{Hears, HearsCommand, HearsFault, IsReadyFor, Keeps, KeepsAny, fault_entry, is_memory, nobody, place_in, refusal_entry, sender_of};
 ghost use Rattle.book_store.specs.Lists.{ForLists, Lists, Serves, StandsFor, book_state};
@@ -29,7 +30,7 @@ pub enum Heard {
     Faulty(MessageFault),
     /// The answer to its command, which is final: a repeat or refused, or the desk is full.
     Answered(Stamped, Answer),
-    /// Its command is new and would be accepted.
+    /// Its command is new and would be accepted: see [`BookStore::accept`].
     Accepts(Change),
 }
 
@@ -50,6 +51,24 @@ impl<S: Alter, D: KeepsRows + Drop> BookStore<S, D> {
         match read_message(self.alloc, told) {
             Ok(Said::Ignored(name)) => Ok(Heard::Ignored(name)),
             Ok(Said::Asked(stamped)) => self.hear_command(told, stamped),
+            Err(fault) => self.hear_fault(told, fault),
+        }
+    }
+
+    /// Answers a message whose members make no entries: hears it, and accepts its command if it would
+    /// be accepted. What came of it is on disk before this returns. It never returns `Accepts`.
+    pub fn answer(&mut self, told: &[u8]) -> Result<Heard, Unavailable>
+        requires serves { Serves S.Store D.Stands self.old }
+        ensures answered { ForLists S.Store D.Stands self.old self.new (λ L.
+            Ends S.Store D.Stands self.old self.new L result (Answers L told.now)) }
+        // A disk that has lied is never honest again.
+        ensures clean { HasCleanDisk (book_state S.Store self.new)
+            → HasCleanDisk (book_state S.Store self.old) }
+        ensures serves { Serves S.Store D.Stands self.new }
+    {
+        match read_message(self.alloc, told) {
+            Ok(Said::Ignored(name)) => Ok(Heard::Ignored(name)),
+            Ok(Said::Asked(stamped)) => self.answer_command(told, stamped),
             Err(fault) => self.hear_fault(told, fault),
         }
     }
@@ -155,6 +174,26 @@ impl<S: Alter, D: KeepsRows + Drop> BookStore<S, D> {
                 Err(_) => Err(Unavailable),
             },
             Verdict::Accepts(change) => Ok(Heard::Accepts(change)),
+        }
+    }
+
+    fn answer_command(&mut self, told: &[u8], stamped: Stamped) -> Result<Heard, Unavailable>
+        requires serves { Serves S.Store D.Stands self.old }
+        ensures answered { ForLists S.Store D.Stands self.old self.new (λ L.
+            Ends S.Store D.Stands self.old self.new L result (AnswersCommand L told.now stamped)) }
+        ensures clean { HasCleanDisk (book_state S.Store self.new)
+            → HasCleanDisk (book_state S.Store self.old) }
+        ensures serves { Serves S.Store D.Stands self.new }
+    {
+        match self.store.judge(&stamped)? {
+            Verdict::Answered(answer) => match self.note_refusal(told, &stamped, &answer) {
+                Ok(()) => Ok(Heard::Answered(stamped, answer)),
+                Err(_) => Err(Unavailable),
+            },
+            Verdict::Accepts(change) => match self.accept(change, &[]) {
+                Ok((stamped, answer)) => Ok(Heard::Answered(stamped, answer)),
+                Err(_) => Err(Unavailable),
+            },
         }
     }
 

@@ -1,4 +1,4 @@
-use Rattle.desk_types.proofs.Common.{arith, err_from_is_err_and, refl, subst}
+use Rattle.desk_types.proofs.Common.{err_from_is_err_and, refl, subst}
 use Rattle.line_tables.proofs.Common.{HasCleanDisk}
 use Rattle.book_store.proofs.Ending.{ends_after, ends_err, ends_failed, ends_ok, ends_still, ends_told}
 use Rattle.book_store.proofs.Loading.{lists_judged, nothing_left}
