@@ -5,7 +5,7 @@ use Rattle.line_book_store.specs.{Book.HoldsBook, Book.IsAlone, Names.has_book}
 use Rattle.line_schema.specs.{Frames.ReadsStore, Stands.Kept, Stands.Stands, Stands.state_of}
 use Rattle.line_schema.specs.declared.store.LineStore.{LineStore}
 use Rattle.line_tables.proofs.Common.{Database, Ghosts, HasCleanDisk, Schema}
-use Rattle.book_store.proofs.Places.{alone_has, shelf_has}
+use Rattle.book_store.proofs.Places.{has_none, shelf_has}
 use Rattle.book_store.specs.Opened.{Finds, HasPlace, HasShelf, Knows}
 use Rattle.book_store.specs.Restored.{IsRestored}
 use Rattle.book_store.specs.declared.restoring.Restored.{Restored}
@@ -14,8 +14,7 @@ use Rattle.book_store.specs.declared.restoring.Restored.{Restored}
 
 pub shelf_there : (db : Database) → HasPlace db → has_book db.schema.tables ≡ Ok true → HasShelf db
 shelf_there db (inl shelf) is = shelf
-shelf_there db (inr alone) is = absurd (let two = sym is ∙ ap (λ (s : Schema). has_book s.tables) alone.1
-    ∙ alone_has alone.0 in cc)
+shelf_there db (inr alone) is = absurd (has_none db is alone)
 
 pub alone_there : (db : Database) → HasPlace db → has_book db.schema.tables ≡ Ok false → IsAlone db
 alone_there db (inr alone) is = alone

@@ -7,6 +7,7 @@ pub mod Hearing
 pub mod InTurn
 pub mod Loading
 pub mod Noting
+pub mod Opening
 pub mod Places
 pub mod Until
 pub mod WholeBook

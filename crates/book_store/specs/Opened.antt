@@ -1,8 +1,9 @@
 -- A store whose book was opened.
-use Rattle.std.specs.Prelude.{◌≡◌, ◌⊎◌, Bool, IsTrue, List, Err, Ok, length}
+use Rattle.std.specs.Prelude.{◌≡◌, ◌⊎◌, [], Bool, IsTrue, List, Err, Ok, OnOk, Result, length}
 use Rattle.sqlite_trees.specs.declared.store.Store.{Ghosts}
 use Rattle.sqlite.specs.Effect.{Database}
-use Rattle.sqlite.specs.State.{HasCleanDisk, State}
+use Rattle.sqlite_trees.specs.Tree.{Trees}
+use Rattle.sqlite.specs.State.{HasCleanDisk, State, Survives}
 use Rattle.desk_types.specs.History.{Basis}
 use Rattle.line_book.specs.declared.note.Note.{Note}
 use Rattle.line_book.specs.declared.row.BookRow.{BookRow}
@@ -13,7 +14,7 @@ use Rattle.line_book_store.specs.Checking.{AreRead}
 use Rattle.line_book_store.specs.Names.{has_book}
 use Rattle.line_book_store.specs.declared.fault.BookFault.{BookFault}
 use Rattle.line_schema.specs.declared.store.LineStore.{LineStore}
-use Rattle.line_schema.specs.Book.{StandsWith}
+use Rattle.line_schema.specs.Book.{LeavesBook, StandsWith}
 use Rattle.line_schema.specs.Stands.{Kept, state_of}
 use Rattle.book_store.specs.declared.restoring.Restored.{Restored}
 use Rattle.book_store.specs.declared.store.BookStore.{BookStore}
@@ -69,3 +70,18 @@ pub record Opens {S D : Type 0} (g : Ghosts S) (Desks : D → Basis → Type 0)
   pub lists : HasPlace (state_of g old).committed → HasCleanDisk (book_state g store)
       → IsTrue L.own → (rows : List BookRow) × (notes : List Note)
       × StandsFor g Desks store (record { kept = L; rows = rows; notes = notes })
+
+-- A crash leaves what it could leave before or, in a file without a book, the history with an empty
+-- book. Once such a file was opened, it leaves only both.
+pub record LeavesOpened {A E : Type 0} (L : Kept) (old new : State) (result : Result A E)
+    : Type 0 where
+  pub survives : IsTrue L.own
+      → Survives old new (λ trees. IsAlone old.committed × LeavesBook L [] trees)
+  pub made : HasCleanDisk new → IsTrue L.own → IsAlone old.committed
+      → OnOk result ((trees : Trees) → new.may_leave trees → LeavesBook L [] trees)
+
+-- The state of the file that comes back.
+abbrev pub opened_state : {S D : Type 0} → Ghosts S
+    → Result (BookStore S D) (BookFault × LineStore S D) → State
+opened_state g (Ok store) = book_state g store
+opened_state g (Err e) = state_of g e.1

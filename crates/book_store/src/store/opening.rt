@@ -8,7 +8,7 @@ ghost use Rattle.line_schema.specs.Book.{disowned};
 ghost use Rattle.line_schema.specs.Frames.{ReadsStore};
 ghost use Rattle.line_schema.specs.Stands.{Kept, Stands, state_of};
 ghost use Rattle.book_store.specs.Lists.{Serves};
-ghost use Rattle.book_store.specs.Opened.{Finds, IsFault, IsNamed, Knows, Opens};
+ghost use Rattle.book_store.specs.Opened.{Finds, HasPlace, IsFault, IsNamed, Knows, LeavesOpened, Opens, opened_state};
 
 use crate::restoring::{Restored, restore};
 use crate::store::BookStore;
@@ -39,6 +39,10 @@ impl<S: Alter, D: KeepsRows + Drop> BookStore<S, D> {
             → ReadsStore S.Store D.Stands store e.1) }
         ensures kept { (L : Kept) → Stands S.Store D.Stands store L
             → IfErr result (λ e. Stands S.Store D.Stands e.1 (disowned L)) }
+        // A book that is made is on disk, whole.
+        ensures crash { (L : Kept) → Stands S.Store D.Stands store L
+            → HasPlace (state_of S.Store store).committed → IsTrue (state_of S.Store store).is_open
+            → LeavesOpened L (state_of S.Store store) (opened_state S.Store result) result }
     {
         let mut store = store;
         match find_book(alloc, &mut store) {
@@ -67,6 +71,10 @@ fn find_book<S: Alter, D: KeepsRows + Drop>(
         → ReadsStore S.Store D.Stands store.old store.new) }
     ensures kept { (L : Kept) → Stands S.Store D.Stands store.old L
         → Stands S.Store D.Stands store.new (disowned L) }
+    ensures crash { (L : Kept) → Stands S.Store D.Stands store.old L
+        → HasPlace (state_of S.Store store.old).committed
+        → IsTrue (state_of S.Store store.old).is_open
+        → LeavesOpened L (state_of S.Store store.old) (state_of S.Store store.new) result }
 {
     let has = match store.has_book() {
         Ok(has) => has,
@@ -91,6 +99,9 @@ fn begin_book<S: Alter, D: KeepsRows + Drop>(
     ensures err { IfErr result (λ fault. fault ≡ Unavailable) }
     ensures kept { (L : Kept) → Stands S.Store D.Stands store.old L
         → Stands S.Store D.Stands store.new (disowned L) }
+    ensures crash { (L : Kept) → Stands S.Store D.Stands store.old L
+        → IsAlone (state_of S.Store store.old).committed
+        → LeavesOpened L (state_of S.Store store.old) (state_of S.Store store.new) result }
 {
     let Ok(()) = store.add_book() else {
         return Err(BookFault::Unavailable);

@@ -11,3 +11,11 @@ returns-in-Ok-clause-opened g c L stands = record {
 
 pub returns-in-Ok-clause-serves : goal.returns-in-Ok-clause-serves
 returns-in-Ok-clause-serves g c L stands = (disowned L, c.find_book.ensures.kept L stands)
+
+pub returns-in-Ok-clause-crash : goal.returns-in-Ok-clause-crash
+returns-in-Ok-clause-crash g c L stands place is_open =
+    let it = c.in-Ok.ensures.crash L stands place is_open in record { survives = it.survives; made = it.made }
+
+pub returns-in-Err-clause-crash : goal.returns-in-Err-clause-crash
+returns-in-Err-clause-crash g c L stands place is_open =
+    let it = c.in-Err.ensures.crash L stands place is_open in record { survives = it.survives; made = it.made }

@@ -5,6 +5,7 @@ use Rattle.line_schema.specs.Stands.{state_of}
 use Rattle.book_store.proofs.Finding.{alone_there, begun_by, err_always, err_weaker, knows_by, ok_always}
 use Rattle.book_store.proofs.Finding.{shelf_there, wrong_later}
 use Rattle.book_store.proofs.InTurn.{store_same}
+use Rattle.book_store.proofs.{Opening.only_read, Places.has_none}
 use Rattle.book_store.proofs.store.opening.find_book.Goals as goal
 
 pub returns-in-Err-clause-fault : goal.returns-in-Err-clause-fault
@@ -60,3 +61,17 @@ returns-clause-fault g c L stands = err_weaker c.begin_book.result _ _ (λ f is.
 pub returns-clause-refused : goal.returns-clause-refused
 returns-clause-refused g c = err_weaker c.begin_book.result _ _ (λ f is other. absurd (other is))
     c.begin_book.ensures.err
+
+pub returns-then-has-clause-crash : goal.returns-then-has-clause-crash
+returns-then-has-clause-crash g c L stands place is_open =
+    let old = state_of g.S.Store c.args.store.now in
+    let named : has_book old.committed.schema.tables ≡ Ok true = sym (c.has_book.ensures.committed L stands is_open)
+    ∙ c.in-Ok.is ∙ ap Ok c.if-has.true in
+    only_read L old _ c.restore.result c.restore.ensures.reads.reads.survives (has_none old.committed named)
+
+pub returns-clause-crash : goal.returns-clause-crash
+returns-clause-crash g c L stands place is_open =
+    let old = state_of g.S.Store c.args.store.now in
+    let named : has_book old.committed.schema.tables ≡ Ok false = sym (c.has_book.ensures.committed L stands is_open)
+    ∙ c.in-Ok.is ∙ ap Ok c.if-has.false in
+    c.begin_book.ensures.crash L stands (alone_there old.committed place named)
