@@ -144,8 +144,9 @@ impl<S: Alter, D: KeepsRows + Drop> BookStore<S, D> {
         }
     }
 
-    /// Returns where the next entry is written.
-    fn place(&self) -> Result<Place, Unavailable>
+    /// Returns where the next entry is written. If a command has several, they are numbered on from
+    /// it, at the same place of the history.
+    pub fn place(&self) -> Result<Place, Unavailable>
         ensures { (L : Lists) → StandsFor S.Store D.Stands self.now L
             → IfOk result (λ place. place ≡ place_in L) }
     {
