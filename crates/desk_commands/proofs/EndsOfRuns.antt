@@ -6,7 +6,7 @@ use Rattle.desk_commands.specs.{Clients.Serving, Connections.AnswersEach, Ends.F
 use Rattle.desk_commands.specs.{Ends.PrintEnds, Ends.ReportEnds, Ends.ServingEnds, OpenRuns.AnswersAll}
 use Rattle.desk_commands.specs.{OpenRuns.AnswersImport, OpenRuns.AnswersUpTo, OpenRuns.CutsImport}
 use Rattle.desk_commands.specs.{OpenRuns.StaysSame}
-use Rattle.http_stream.specs.{Answers.Told, Stream.RuleBy}
+use Rattle.http_stream.specs.{Answers.Told, Stream.Rule}
 use Rattle.imports.specs.declared.import.Import.{Import}
 
 module _ {R W E : Type 0} {reads : R → Option (List ℕ)} {writes : W → Option (List ℕ)} {tells : E → Option (List ℕ)}
@@ -40,7 +40,7 @@ module _ {W E : Type 0} {writes : W → Option (List ℕ)} {tells : E → Option
     well = row.well;
   }
 
-  pub serving_follows : {connections : ℕ} {rule : RuleBy} {Serves : Serving → Type 0} {Runs Runs' : (Ledger → History → Type 0) → Type 0} → ServingEnds writes tells output output' errors errors' connections rule Serves Runs NoDesk exit
+  pub serving_follows : {connections : ℕ} {rule : Rule Ledger} {Serves : Serving → Type 0} {Runs Runs' : (Ledger → History → Type 0) → Type 0} → ServingEnds writes tells output output' errors errors' connections rule Serves Runs NoDesk exit
       → ((Fact : Ledger → History → Type 0) → Runs Fact → Runs' Fact) → (NoDesk → NoDesk') → ServingEnds writes tells output output' errors errors' connections rule Serves Runs' NoDesk' exit
   serving_follows {rule = rule} run to none = record {
     status = run.status;
@@ -101,7 +101,7 @@ module _ {W E : Type 0} {writes : W → Option (List ℕ)} {tells : E → Option
     well = λ at. absurd (omega (arith, is, at));
   }
 
-  pub serving_refused : {connections : ℕ} {rule : RuleBy} {Serves : Serving → Type 0} {Runs : (Ledger → History → Type 0) → Type 0} → exit ≡ 3 → NoDesk → ServingEnds writes tells output output errors errors' connections rule Serves Runs NoDesk exit
+  pub serving_refused : {connections : ℕ} {rule : Rule Ledger} {Serves : Serving → Type 0} {Runs : (Ledger → History → Type 0) → Type 0} → exit ≡ 3 → NoDesk → ServingEnds writes tells output output errors errors' connections rule Serves Runs NoDesk exit
   serving_refused is none = record {
     status = inr (inr (inl is));
     served = λ at. absurd (omega (arith, is, at));

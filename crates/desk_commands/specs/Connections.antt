@@ -7,36 +7,22 @@ use Rattle.desk_answers.specs.Ledger.{Ledger}
 use Rattle.desk_answers.specs.Sent.{SendsFront}
 use Rattle.desk_answers.specs.declared.serving.Served.{Served}
 use Rattle.desk_answers.specs.declared.serving.ServeFault.TheVariants.{Read, Write, TooManyReads}
-use Rattle.http_stream.specs.Stream.{Rule, RuleBy, AnsweredAll, AnsweredFront, AnsweredInto}
+use Rattle.http_stream.specs.Stream.{Rule, AnswersConnection}
 use Rattle.desk_commands.specs.Clients.{Ended, Exchange, Stop, served_all, no_port, no_client, no_line}
 
 -- ---- the history
 
--- The client of this connection sent these bytes and received their answers by the history before it, and the history
+-- The client of this connection sent these bytes and received their answers by the ledger before it, and the history
 -- became this one.
-abbrev pub ConnectedSo : Rule → Option (List ℕ) → Option (List ℕ) → History → Option (List ℕ)
-    → Ended → History → Option (List ℕ) → Type 0
-ConnectedSo rule sent unread H before (Ok served) H' after =
-    AnsweredAll rule sent H before H' after served
-ConnectedSo rule sent unread H before (Err (Read served)) H' after =
-    AnsweredFront rule sent unread H before H' after served
-ConnectedSo rule sent unread H before (Err (TooManyReads served)) H' after =
-    AnsweredFront rule sent unread H before H' after served
-ConnectedSo rule sent unread H before (Err (Write served)) H' after =
-    AnsweredInto rule sent H before H' after served
-
-abbrev pub Connected : Rule → History → Exchange → History → Type 0
-Connected rule H e H' = ConnectedSo rule e.sent e.unread H e.before e.ended H' e.after
+abbrev pub Connected : Rule Ledger → Ledger → Exchange → History → Type 0
+Connected rule G e H = AnswersConnection rule e.sent e.unread e.before e.after e.ended G
+    (record G { history = H })
 
 -- Each connection was answered by the history that the previous one left.
-abbrev pub ConnectedEach : Rule → History → List Exchange → History → Type 0
-ConnectedEach rule H [] H' = H' ≡ H
-ConnectedEach rule H (e ∷ es) H' =
-    (H₁ : History) × Connected rule H e H₁ × ConnectedEach rule H₁ es H'
-
--- The same by the rule of the ledger.
-abbrev pub AnswersEach : RuleBy → List Exchange → Ledger → History → Type 0
-AnswersEach rule exchanges G H = ConnectedEach (rule G.rules G.greatest) G.history exchanges H
+abbrev pub AnswersEach : Rule Ledger → List Exchange → Ledger → History → Type 0
+AnswersEach rule [] G H = H ≡ G.history
+AnswersEach rule (e ∷ es) G H = (H₁ : History) × Connected rule G e H₁
+    × AnswersEach rule es (record G { history = H₁ }) H
 
 -- ---- the lines
 

@@ -18,7 +18,7 @@ use Rattle.desk_answers.specs.Shown.{IsShown}
 use Rattle.desk_feed.specs.Stream.{LeavesNone}
 use Rattle.imports.specs.declared.import.Import.{Import}
 use Rattle.http_stream.specs.Answers.{Told, code_of}
-use Rattle.http_stream.specs.Stream.{RuleBy}
+use Rattle.http_stream.specs.Stream.{Rule}
 use Rattle.desk_commands.specs.Clients.{Serving, ends_of}
 use Rattle.desk_commands.specs.Connections.{AnswersEach, TellsConnections}
 use Rattle.desk_commands.specs.OpenRuns.{AnswersAll, AnswersImport, AnswersUpTo, CutsImport, StaysSame}
@@ -73,7 +73,7 @@ pub record ImportEnds {W E : Type 0} (writes : W → Option (List ℕ)) (tells :
 -- had, and how it had no more.
 pub record ServingEnds {W E : Type 0} (writes : W → Option (List ℕ)) (tells : E → Option (List ℕ))
     (output output' : Wire W) (errors errors' : Wire E)
-    (connections : ℕ) (rule : RuleBy) (Serves : Serving → Type 0)
+    (connections : ℕ) (rule : Rule Ledger) (Serves : Serving → Type 0)
     (Runs : (Ledger → History → Type 0) → Type 0) (NoDesk : Type 0) (exit : ℕ) : Type 0 where
   pub status : (exit ≡ 0) ⊎ (exit ≡ 1) ⊎ (exit ≡ 3) ⊎ (exit ≡ 4)
   pub served : (exit ≡ 0) ⊎ (exit ≡ 1) ⊎ (exit ≡ 4)

@@ -71,7 +71,7 @@ fn serve_next<L: ReportedOwner, C: Clients>(
     ensures served { IfSome result (λ ended. (exchange : Exchange) × (exchange.ended ≡ ended)
         × Sees C.Saw clients.old clients.new (events_in exchange)
         × ForLists L.Stands L.Trusts owner.old owner.new
-        (λ G H. Connected (request_rule L.reports G.rules G.greatest) G.history exchange H)) }
+        (λ G. Connected (request_rule L.reports) G exchange)) }
 {
     let Ok((reader, writer)) = clients.accept() else {
         return None;

@@ -18,7 +18,7 @@ use Rattle.desk_program.specs.{Program.RunsImport, Program.RunsReport, Program.R
 use Rattle.desk_words.specs.CommandLine.{AsksForAudit, AsksForFeed, AsksForImport, AsksForMigration}
 use Rattle.desk_words.specs.CommandLine.{AsksForReport, AsksForServing}
 use Rattle.gateway_http.specs.Reports.{report_of}
-use Rattle.http_stream.specs.{Answers.code_of, Answers.Told, Stream.RuleBy}
+use Rattle.http_stream.specs.{Answers.code_of, Answers.Told, Stream.Rule}
 use Rattle.imports.specs.declared.import.Import.{Import}
 use Rattle.line_schema.specs.declared.fault.OpenFault.{OpenFault}
 use Rattle.sqlite_disk.specs.declared.Disk as disk
@@ -34,7 +34,7 @@ pub runs_report : (ways : Ways) (words : List (List ℕ)) (Shown : Told → Type
 runs_report ways words Shown file target path answer asks is shown runs =
     (file, target, asks, answer, shown, subst (λ (at : List ℕ). ways.Runs None (AnswersReport report_of at answer)) is runs)
 
-pub runs_serving : {W : Type 0} (ways : Ways) (words : List (List ℕ)) (serves : ℕ → Serving → Type 0) (contents : W → Option (List ℕ)) (output output' : Wire W) (rule : RuleBy)
+pub runs_serving : {W : Type 0} (ways : Ways) (words : List (List ℕ)) (serves : ℕ → Serving → Type 0) (contents : W → Option (List ℕ)) (output output' : Wire W) (rule : Rule Ledger)
     (file : List ℕ) (port connections greatest status told : ℕ) → AsksForServing words file port connections greatest → status ≡ told
     → (serving : Serving) × TellsConnections connections (ends_of serving.exchanges) serving.stop status (contents (inner_of output)) (contents (inner_of output')) (failures_of output) (failures_of output') × serves port serving × ways.Runs (Some greatest) (AnswersEach rule serving.exchanges)
     → ((exchanges : List Exchange) → ways.Runs (Some greatest) (AnswersEach rule exchanges) → ways.Runs (Some greatest) (ServesEach exchanges)) → RunsServing ways words serves contents output output' told
@@ -116,7 +116,7 @@ module _ {R W E : Type 0} (ways : Ways) {holds : List ℕ → Option (List ℕ)}
 
 module _ {R W E : Type 0} (ways : Ways) {holds : List ℕ → Option (List ℕ)} {may_fail : List ℕ → Type 0} {serves : ℕ → Serving → Type 0} {reads : R → Option (List ℕ)} {writes : W → Option (List ℕ)} {tells : E → Option (List ℕ)}
     {words : List (List ℕ)} {input : Wire R} {output output' : Wire W} {errors errors' : Wire E} {exit : ℕ} where
-  pub serves_asked : (file : List ℕ) (port connections greatest : ℕ) {rule : RuleBy} {Unasked : Type 0} → AsksForServing words file port connections greatest
+  pub serves_asked : (file : List ℕ) (port connections greatest : ℕ) {rule : Rule Ledger} {Unasked : Type 0} → AsksForServing words file port connections greatest
       → ServingEnds writes tells output output' errors errors' connections rule (serves port) (ways.Runs (Some greatest)) (HasNoDesk (ways.Refuses (Some greatest)) ⊥ (TellsLine tells errors errors') × Unasked) exit
       → ((exchanges : List Exchange) → ways.Runs (Some greatest) (AnswersEach rule exchanges) → ways.Runs (Some greatest) (ServesEach exchanges)) → LeavesAs ways holds may_fail serves reads writes tells words input input output output' errors errors' exit
   serves_asked file port connections greatest {rule = rule} asks run to =

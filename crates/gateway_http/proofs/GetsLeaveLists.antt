@@ -1,5 +1,5 @@
 -- A GET leaves the history unchanged.
-use Rattle.desk_types.proofs.Common.{[], ⊤, ◌∙◌, ◌≡◌, Bool, codes, Err, false, History, inl, inr, List, None}
+use Rattle.desk_types.proofs.Common.{[], ⊤, ◌∙◌, ◌≡◌, Bool, codes, Err, false, inl, inr, List, None}
 use Rattle.desk_types.proofs.Common.{Ok, ok_or, Option, refl, Result, Some, true, ℕ}
 use Rattle.cfx_profile.specs.Fault.{◌>>=◌}
 use Rattle.desk_answers.specs.Ledger.{Ledger}
@@ -7,7 +7,7 @@ use Rattle.gateway_http.specs.Asked.{asked_at, asked_of, boards_in, by_method, d
 use Rattle.gateway_http.specs.Asked.{query_of}
 use Rattle.gateway_http.specs.Gateways.{AnswersGet}
 use Rattle.gateway_http.specs.Repeats.{get_of}
-use Rattle.gateway_http.specs.Requests.{asked_outcome, outcome_of, Reports, request_rule}
+use Rattle.gateway_http.specs.Requests.{asked_outcome, Reports, request_rule}
 use Rattle.gateway_http.specs.Routes.{route_of}
 use Rattle.gateway_http.specs.declared.asked.Asked.{Asked}
 use Rattle.gateway_http.specs.declared.fault.AskFault.{AskFault}
@@ -27,7 +27,7 @@ Asks (Ok asks.Message) = ⊥
 Asks (Ok (asks.Import import)) = ⊥
 Asks (Err fault) = ⊤
 
-stays : (reports : Reports) (L : Ledger) (body : List ℕ) (a : Result Asked AskFault) → Asks a → (asked_outcome reports L body a).after ≡ L.history
+stays : (reports : Reports) (L : Ledger) (body : List ℕ) (a : Result Asked AskFault) → Asks a → (asked_outcome reports L body a).after ≡ L
 stays reports L body (Ok (asks.Report report)) asked_of = refl
 stays reports L body (Ok asks.Message) asked_of = absurd asked_of
 stays reports L body (Ok (asks.Import import)) asked_of = absurd asked_of
@@ -53,15 +53,15 @@ by-path : (o : Option Route) (query : List ℕ) → Asks (ok_or o NoPath >>= (λ
 by-path None query = tt
 by-path (Some route) query = by-route route query
 
-pub get-stays : (reports : Reports) (L : Ledger) (target : List ℕ) → (outcome_of reports L (get_of target)).after ≡ L.history
+pub get-stays : (reports : Reports) (L : Ledger) (target : List ℕ) → (request_rule reports L (get_of target)).after ≡ L
 unfolding asked_of
 get-stays reports L target = stays reports L [] (asked_of (codes "GET") target) (by-path (route_of (path_of target)) (query_of target))
 
-pub get-told : (reports : Reports) (G : Ledger) (target : List ℕ) (told : Told) (H : History)
-    → AnswersRequest (request_rule reports G.rules G.greatest) (get_of target) G.history told H → AnswersGet reports G target told × (H ≡ G.history)
-get-told reports G target told H (mark, is, after) = by mark is after
+pub get-told : (reports : Reports) (G : Ledger) (target : List ℕ) (told : Told) (G' : Ledger)
+    → AnswersRequest (request_rule reports) (get_of target) G told G' → AnswersGet reports G target told × (G' ≡ G)
+get-told reports G target told G' (mark, is, after) = by mark is after
   where
-    by : (mark : Bool) → told ≡ (request_outcome (request_rule reports G.rules G.greatest) mark G.history (get_of target)).told
-        → H ≡ (request_outcome (request_rule reports G.rules G.greatest) mark G.history (get_of target)).after → AnswersGet reports G target told × (H ≡ G.history)
+    by : (mark : Bool) → told ≡ (request_outcome (request_rule reports) mark G (get_of target)).told
+        → G' ≡ (request_outcome (request_rule reports) mark G (get_of target)).after → AnswersGet reports G target told × (G' ≡ G)
     by true is after = (inr is, after)
     by false is after = (inl is, after ∙ get-stays reports G target)

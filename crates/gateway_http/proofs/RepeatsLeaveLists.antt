@@ -1,5 +1,5 @@
 -- A repeat leaves the history unchanged.
-use Rattle.desk_types.proofs.Common.{◌≡◌, Err, false, is_some, List, None, not, Ok, Option, option_map_or}
+use Rattle.desk_types.proofs.Common.{◌≡◌, ap, Err, false, is_some, List, None, not, Ok, Option, option_map_or}
 use Rattle.desk_types.proofs.Common.{refl, Result, Some, true, ℕ}
 use Rattle.cfx_profile.specs.{Message.said_in, declared.fault.MessageFault.MessageFault}
 use Rattle.cfx_profile.specs.{declared.message.Said.Said}
@@ -31,8 +31,8 @@ import-stays : (L : Ledger) (said : Result Stamped ImportFault) → option_map_o
 import-stays L (Ok s) e = command-stays L s e
 import-stays L (Err fault) e = refl
 
-pub repeat-stays : (reports : Reports) (L : Ledger) (body : List ℕ) (a : Result Asked AskFault) → option_map_or (is_known L.history) (command_asked body a) false ≡ true → (asked_outcome reports L body a).after ≡ L.history
-repeat-stays reports L body (Ok asks.Message) e = message-stays L (said_in body) e
-repeat-stays reports L body (Ok (asks.Import import)) e = import-stays L (command_said import body) e
+pub repeat-stays : (reports : Reports) (L : Ledger) (body : List ℕ) (a : Result Asked AskFault) → option_map_or (is_known L.history) (command_asked body a) false ≡ true → (asked_outcome reports L body a).after ≡ L
+repeat-stays reports L body (Ok asks.Message) e = ap (λ H. record L { history = H }) (message-stays L (said_in body) e)
+repeat-stays reports L body (Ok (asks.Import import)) e = ap (λ H. record L { history = H }) (import-stays L (command_said import body) e)
 repeat-stays reports L body (Ok (asks.Report report)) e = refl
 repeat-stays reports L body (Err fault) e = refl

@@ -6,6 +6,7 @@ use Rattle.cfx_profile.specs.declared.fault.MessageFault.{MessageFault}
 use Rattle.cfx_profile.specs.declared.message.Said.{Said}
 use Rattle.cfx_profile.specs.declared.message.Said.TheVariants as says
 use Rattle.desk_answers.specs.Commands.{earlier_answer, is_refused}
+use Rattle.desk_answers.specs.Ledger.{Ledger}
 use Rattle.desk_types.specs.History.{History}
 use Rattle.desk_types.specs.declared.command.Stamped.{Stamped}
 use Rattle.gateway_http.specs.Asked.{asked_of}
@@ -42,8 +43,9 @@ abbrev pub is_known : History → Stamped → Bool
 is_known H s = option_map_or (λ answer. not (is_refused answer)) (earlier_answer H s) false
 
 -- The request is a repeat: its command was accepted before, from the same message or file.
-abbrev pub is_repeat : Repeats
-is_repeat H r = option_map_or (is_known H) (command_asked r.body (asked_of r.method r.target)) false
+abbrev pub is_repeat : Repeats Ledger
+is_repeat G r =
+    option_map_or (is_known G.history) (command_asked r.body (asked_of r.method r.target)) false
 
 -- ---- GET requests
 

@@ -1,4 +1,4 @@
--- The answer to a request and the history after it, given the commands accepted before.
+-- The answer to a request and the ledger after it, given the commands accepted before.
 use Rattle.std.specs.Prelude.{ℕ, List, Option, Some, None, Result, Ok, Err}
 use Rattle.desk_answers.specs.Ledger.{Ledger}
 use Rattle.desk_feed.specs.Messages.{answer_to, list_after}
@@ -6,7 +6,6 @@ use Rattle.desk_feed.specs.declared.message.AnswerText.{AnswerText}
 use Rattle.desk_feed.specs.Import.{after_said, answer_said}
 use Rattle.desk_types.specs.History.{History}
 use Rattle.desk_types.specs.declared.command.Stamped.{Stamped}
-use Rattle.desk_types.specs.declared.rules.Rules.{Rules}
 use Rattle.gateway_http.specs.Answer as request
 use Rattle.gateway_http.specs.Asked.{asked_of}
 use Rattle.gateway_http.specs.declared.asked.Asked.{Asked}
@@ -15,7 +14,6 @@ use Rattle.gateway_http.specs.declared.asked.Report.{Report}
 use Rattle.gateway_http.specs.declared.asked.Report.TheVariants as report
 use Rattle.gateway_http.specs.declared.fault.AskFault.{AskFault}
 use Rattle.http_stream.specs.Answers.{Told, unavailable}
-use Rattle.http_stream.specs.Cut.{Request}
 use Rattle.http_stream.specs.Stream.{Outcome, Rule}
 use Rattle.http_stream.specs.declared.response.MediaType.TheVariants.{Json, Csv}
 use Rattle.http_stream.specs.declared.response.Status.{Status}
@@ -59,26 +57,27 @@ report_told asked_of (Some text) = record { status = status.Ok; kind = Csv; body
 report_told asked_of None = none_told (kind_of asked_of)
 
 -- An answer that leaves the history unchanged.
-abbrev pub outcome_leaving : Ledger → Told → Outcome
-outcome_leaving L told = record { told = told; after = L.history }
+abbrev pub outcome_leaving : Ledger → Told → Outcome Ledger
+outcome_leaving L told = record { told = told; after = L }
 
 -- The answer to a message or an import, with the status of its verdict.
 abbrev pub told : AnswerText → Told
 told answer = json (verdict_status answer.verdict) answer.text
 
 -- The outcome of a message.
-abbrev pub message_outcome : Ledger → List ℕ → Outcome
+abbrev pub message_outcome : Ledger → List ℕ → Outcome Ledger
 message_outcome L body = record {
   told = told (answer_to L.rules L.greatest L.history body);
-  after = list_after L.rules L.greatest L.history body;
+  after = record L { history = list_after L.rules L.greatest L.history body };
 }
 
 -- The outcome of an import, by the command or the first fault of its file.
-abbrev pub import_outcome : Ledger → Result Stamped ImportFault → Outcome
-import_outcome L said = record { told = told (answer_said L said); after = after_said L said }
+abbrev pub import_outcome : Ledger → Result Stamped ImportFault → Outcome Ledger
+import_outcome L said =
+    record { told = told (answer_said L said); after = record L { history = after_said L said } }
 
 -- The outcome of a request with this body.
-abbrev pub asked_outcome : Reports → Ledger → List ℕ → Result Asked AskFault → Outcome
+abbrev pub asked_outcome : Reports → Ledger → List ℕ → Result Asked AskFault → Outcome Ledger
 asked_outcome reports L body (Ok asks.Message) = message_outcome L body
 asked_outcome reports L body (Ok (asks.Import import)) =
     import_outcome L (command_said import body)
@@ -87,12 +86,6 @@ asked_outcome reports L body (Ok (asks.Report asked_of)) =
 asked_outcome reports L body (Err fault) =
     outcome_leaving L (json (request_fault_status fault) (request.fault_text fault))
 
--- The outcome of a request.
-abbrev pub outcome_of : Reports → Ledger → Request → Outcome
-outcome_of reports L r = asked_outcome reports L r.body (asked_of r.method r.target)
-
--- The gateway's rule: the outcome of a request after each history, for these reports, rules and
--- greatest number.
-abbrev pub request_rule : Reports → Rules → ℕ → Rule
-request_rule reports rules greatest H r =
-    outcome_of reports (record { rules = rules; greatest = greatest; history = H }) r
+-- The gateway's rule: the outcome of a request with these reports. Only the history changes.
+abbrev pub request_rule : Reports → Rule Ledger
+request_rule reports L r = asked_outcome reports L r.body (asked_of r.method r.target)

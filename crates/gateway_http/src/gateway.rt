@@ -6,7 +6,7 @@ ghost use Rattle.desk_answers.specs.Ledger.{Ledger, ForLists};
 ghost use Rattle.desk_answers.specs.Owners.{StaysReady};
 ghost use Rattle.desk_answers.specs.Shown.{CanCountRun, CountsRun};
 ghost use Rattle.http_stream.specs.Answers.{response_told};
-ghost use Rattle.http_stream.specs.Stream.{AnswersConnection};
+ghost use Rattle.http_stream.specs.Stream.{AnswersConnection, StaysLent};
 ghost use Rattle.gateway_http.specs.Gateways.{AnswersGet};
 ghost use Rattle.gateway_http.specs.Requests.{request_rule};
 
@@ -30,7 +30,10 @@ struct Gateway<'a, L> {
 /// It answers by the gateway's rule, with its owner's reports.
 impl<'a, L: ReportedOwner> Handler for Gateway<'a, L> {
     ghost use Rattle.std.specs.Prelude.{◌≡◌};
+    ghost use Rattle.desk_answers.specs.Ledger.{Ledger};
     ghost use Rattle.gateway_http.specs.Requests.{request_rule};
+
+    ghost State = { Ledger };
 
     ghost rule = { request_rule L.reports };
 
@@ -58,6 +61,30 @@ impl<'a, L: ReportedOwner> Handler for Gateway<'a, L> {
     }
 }
 
+impl<'a, L: ReportedOwner> Gateway<'a, L> {
+    /// Serves a connection. Of the ledger only the history changes.
+    fn serve<R: Read, W: Write>(
+        &mut self,
+        alloc: Global,
+        input: &mut Wire<R>,
+        output: &mut Wire<W>,
+    ) -> Result<Served, ServeFault>
+        requires counts { CanCountRun input.old output.old }
+        requires ready { L.Ready self.old.owner.now }
+        ensures stays { StaysLent (λ gateway. L.Ready gateway.owner.now)
+            (λ gateway. L.Trusts gateway.owner.now) (λ gateway. gateway.owner.ghost_name)
+            self.old self.new }
+        ensures answers { ForLists (λ gateway G. L.Stands gateway.owner.now G)
+            (λ gateway. L.Trusts gateway.owner.now) self.old self.new
+            (λ G H. AnswersConnection (request_rule L.reports) (R.remaining (inner_of input.old))
+            (R.remaining (inner_of input.new)) (W.contents (inner_of output.old))
+            (W.contents (inner_of output.new)) result G (record G { history = H })) }
+        ensures counts { CountsRun result input.old input.new output.old output.new }
+    {
+        http_stream::serve(alloc, input, output, self)
+    }
+}
+
 fn make_missing(alloc: Global, routes: &mut Option<RouteTable>)
     ensures { is_some routes.old ≡ true → routes.new ≡ routes.old }
 {
@@ -77,9 +104,9 @@ pub fn serve<R: Read, W: Write, L: ReportedOwner>(
     requires ready { L.Ready owner.old }
     ensures stays { StaysReady L.Ready L.Trusts owner.old owner.new }
     ensures answers { ForLists L.Stands L.Trusts owner.old owner.new
-        (AnswersConnection (request_rule L.reports) (R.remaining (inner_of input.old))
+        (λ G H. AnswersConnection (request_rule L.reports) (R.remaining (inner_of input.old))
         (R.remaining (inner_of input.new)) (W.contents (inner_of output.old))
-        (W.contents (inner_of output.new)) result) }
+        (W.contents (inner_of output.new)) result G (record G { history = H })) }
     ensures counts { CountsRun result input.old input.new output.old output.new }
 {
     let mut routes = None;
@@ -87,7 +114,7 @@ pub fn serve<R: Read, W: Write, L: ReportedOwner>(
         owner,
         routes: &mut routes,
     };
-    let ended = http_stream::serve(alloc, input, output, &mut gateway);
+    let ended = gateway.serve(alloc, input, output);
     let Gateway {
         owner: _,
         routes: _,

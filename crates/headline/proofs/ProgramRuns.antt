@@ -1,20 +1,18 @@
 -- The program's contracts give a run in the sense of these definitions.
-use Rattle.desk_types.proofs.Common.{[], ◌∷◌, ap, Err, History, List, Ok, Option, refl, Some, subst, true, ℕ}
+use Rattle.desk_types.proofs.Common.{[], ◌∷◌, History, List, Option, refl, Some, subst, true, ℕ}
 use Rattle.line_tables.proofs.Common.{Database, HasCleanDisk, Holds, HoldsAt, HoldsDatabase, over_files}
 use Rattle.line_tables.proofs.Common.{State, Trees}
-use Rattle.desk_answers.specs.{Ledger.Ledger, declared.serving.ServeFault.TheVariants.Read}
-use Rattle.desk_answers.specs.{declared.serving.ServeFault.TheVariants.TooManyReads}
-use Rattle.desk_answers.specs.{declared.serving.ServeFault.TheVariants.Write}
-use Rattle.desk_commands.specs.{Clients.Ended, Clients.Exchange, Closed.IsRefusedTo, Closed.RunsTo}
-use Rattle.desk_commands.specs.{Closed.whole, Connections.ConnectedSo, OpenRuns.AnswersReport}
+use Rattle.desk_answers.specs.Ledger.{Ledger}
+use Rattle.desk_commands.specs.{Clients.Exchange, Closed.IsRefusedTo, Closed.RunsTo}
+use Rattle.desk_commands.specs.{Closed.whole, OpenRuns.AnswersReport}
 use Rattle.desk_commands.specs.{OpenRuns.StaysSame, Runs.RunsOn, Runs.ServesEach}
 use Rattle.desk_commands.specs.{declared.left.ToClose.TheVariants.Desk}
 use Rattle.desk_file.specs.Files.{IsFoundIn}
 use Rattle.feeder_state.specs.declared.desk.StateDesk.{StateDesk}
-use Rattle.gateway_http.specs.{Reports.report_of, Requests.Reports, Requests.request_rule}
+use Rattle.gateway_http.specs.Reports.{report_of}
 use Rattle.headline.proofs.CallsInTurn.{goes_on, trusts_back}
-use Rattle.headline.specs.{Calls.AnswersByTheList, Calls.Call, Calls.Calls, Calls.Feeds, Calls.Imports}
-use Rattle.headline.specs.{Calls.Serves, Calls.Call.asked, Calls.Call.fed, Calls.Call.imported}
+use Rattle.headline.specs.{Calls.AnswersByTheList, Calls.Call, Calls.Feeds, Calls.Imports}
+use Rattle.headline.specs.{Calls.Call.asked, Calls.Call.fed, Calls.Call.imported}
 use Rattle.headline.specs.{Closed.ClosesTo, Closed.connections_of, Closed.GivesCalls, Closed.ReadsClean}
 use Rattle.headline.specs.{Closed.run_of, Crashed.CrashesTo, Crashed.killed_run_of, Crashed.MakesCalls}
 use Rattle.headline.specs.{Crashed.StandsForList, Runs.by_two, Runs.IsRun, Runs.KeepsList}
@@ -64,16 +62,9 @@ module _ {T D : Type 0} (g : disk.Ghosts D) (first : start.Ghosts T) (make : Opt
         },
       )
 
-serves : (reports : Reports) (G : Ledger) (sent unread before after : Option (List ℕ)) (ended : Ended) (H : History) → ConnectedSo (request_rule reports G.rules G.greatest) sent unread G.history before ended H after
-    → Serves (request_rule reports G.rules G.greatest) G.history sent unread before after ended H
-serves reports G sent unread before after (Ok served) H connected = connected
-serves reports G sent unread before after (Err (Read served)) H connected = connected
-serves reports G sent unread before after (Err (TooManyReads served)) H connected = connected
-serves reports G sent unread before after (Err (Write served)) H connected = connected
-
 pub serves_each : (exchanges : List Exchange) (G : Ledger) (H : History) → ServesEach exchanges G H → AnswersByTheList report_of G (connections_of exchanges) H
 serves_each [] G H same = same
-serves_each (e ∷ es) G H (H₁, one, rest) = (H₁, serves report_of G e.sent e.unread e.before e.after e.ended H₁ one, serves_each es (record G { history = H₁ }) H rest)
+serves_each (e ∷ es) G H (H₁, one, rest) = (H₁, one, serves_each es (record G { history = H₁ }) H rest)
 
 -- Facts that answer calls give what every such fact gives.
 pub gives_calls : (Gives : (Ledger → History → Type 0) → List Call → Type 0)

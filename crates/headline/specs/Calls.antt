@@ -7,15 +7,13 @@ use Rattle.desk_answers.specs.Ledger.{Ledger, IsAnswer, ledger_after, ForLists}
 use Rattle.desk_answers.specs.declared.serving.Served.{Served}
 use Rattle.desk_answers.specs.declared.serving.ServeFault.{ServeFault}
 use Rattle.desk_answers.specs.declared.sending.WriteFailed.{WriteFailed}
-use Rattle.desk_answers.specs.declared.serving.ServeFault.TheVariants.{Read, Write, TooManyReads}
 use Rattle.desk_feed.specs.Stream as lines
 use Rattle.desk_feed.specs.Import as file
 use Rattle.imports.specs.declared.import.Import.{Import}
 use Rattle.imports.specs.declared.fault.ImportFault.{ImportFault}
 use Rattle.gateway_http.specs.declared.asked.Report.{Report}
 use Rattle.http_stream.specs.Answers.{Told}
-use Rattle.http_stream.specs.Stream as requests
-use Rattle.http_stream.specs.Stream.{Rule}
+use Rattle.http_stream.specs.Stream.{AnswersConnection}
 use Rattle.gateway_http.specs.Gateways.{AnswersGet}
 use Rattle.gateway_http.specs.Requests.{Reports, request_rule}
 use Rattle.line_schema.specs.declared.unavailable.Unavailable.{Unavailable}
@@ -52,18 +50,6 @@ Feeds G input out out' (Ok served) H =
 Feeds G input out out' (Err fault) H =
     lines.AnsweredUpTo G.rules G.greatest input G.history out H out' fault
 
--- The same for requests.
-abbrev pub Serves : Rule → History → Option (List ℕ) → Option (List ℕ) → Option (List ℕ)
-    → Option (List ℕ) → Ended → History → Type 0
-Serves rule G input left out out' (Ok served) H =
-    requests.AnsweredAll rule input G out H out' served
-Serves rule G input left out out' (Err (Read served)) H =
-    requests.AnsweredFront rule input left G out H out' served
-Serves rule G input left out out' (Err (TooManyReads served)) H =
-    requests.AnsweredFront rule input left G out H out' served
-Serves rule G input left out out' (Err (Write served)) H =
-    requests.AnsweredInto rule input G out H out' served
-
 -- An import's command, or its file's first fault, was answered from the ledger G, and H is the
 -- history after it.
 abbrev pub Imports : Ledger → Import → Option (List ℕ) → Option (List ℕ) → Option (List ℕ)
@@ -77,7 +63,7 @@ Imports G import bytes out out' (Err fault) H = (said : Result Stamped ImportFau
 abbrev pub IsAnswered : Reports → Ledger → Call → History → Type 0
 IsAnswered reports G (fed input out out' ended) H = Feeds G input out out' ended H
 IsAnswered reports G (connected input left out out' ended) H =
-    Serves (request_rule reports G.rules G.greatest) G.history input left out out' ended H
+    AnswersConnection (request_rule reports) input left out out' ended G (record G { history = H })
 IsAnswered reports G (commanded s answer) H = IsAnswer G s answer
     × (H ≡ (ledger_after G s answer).history)
 IsAnswered reports G (asked target told) H = AnswersGet reports G target told × (H ≡ G.history)

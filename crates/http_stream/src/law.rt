@@ -1,11 +1,12 @@
 //! Laws of streams: the bytes determine the requests, and repeats act once.
 
 ghost use Rattle.std.specs.Prelude.{◌≡◌, ◌⊎◌, ℕ, List, false};
-ghost use Rattle.desk_types.specs.History.{History};
 ghost use Rattle.http_stream.specs.Cut.{Portion, IsPortion, IsCut, EndsInside};
-ghost use Rattle.http_stream.specs.Repeats.{Repeats, LeavesTheList, NoRepeatEnds, IsCutWithout, without_repeats, after_all};
+ghost use Rattle.http_stream.specs.Repeats.{Repeats, LeavesState, NoRepeatEnds, IsCutWithout, without_repeats, after_all};
 ghost use Rattle.http_stream.specs.Stream.{Rule};
 ghost use Rattle.http_stream.specs.Unique.{IsOpen, IsClear, IsOnePortion, NoneStarved, is_starved};
+
+use crate::serving::Handler;
 
 /// A law: outside the one open case of the head grammar, a stream starts with exactly one portion
 /// or ends inside a request, unless memory runs out. So the bytes alone determine the cuts of a
@@ -21,16 +22,17 @@ pub fn bytes_decide()
         → IsClear input → ps ≡ qs }
 {}
 
-/// A law, for every rule under which repeats leave the history unchanged: if no portion is marked
-/// and no repeat ends its connection, removing the repeats' bytes keeps the final history.
-pub fn repeats_act_once()
-    ensures left_out { (rule : Rule) (again : Repeats) (H : History)
-        → (input : List ℕ) (ps : List Portion) → IsCut input ps → NoRepeatEnds rule again H ps
-        → (fewer : List ℕ) × IsCutWithout rule again H input ps fewer }
-    ensures cut { (rule : Rule) (again : Repeats) (H : History)
-        → (input fewer : List ℕ) (ps : List Portion) → IsCutWithout rule again H input ps fewer
-        → IsCut fewer (without_repeats rule again H ps) }
-    ensures list { (rule : Rule) (again : Repeats) → LeavesTheList rule again
-        → (H : History) (ps : List Portion)
-        → after_all rule H ps ≡ after_all rule H (without_repeats rule again H ps) }
+/// A law, for every rule of a handler's states under which repeats leave the state unchanged: if no
+/// portion is marked and no repeat ends its connection, removing the repeats' bytes keeps the final
+/// state.
+pub fn repeats_act_once<A: Handler>()
+    ensures left_out { (rule : Rule A.State) (again : Repeats A.State) (s : A.State)
+        → (input : List ℕ) (ps : List Portion) → IsCut input ps → NoRepeatEnds rule again s ps
+        → (fewer : List ℕ) × IsCutWithout rule again s input ps fewer }
+    ensures cut { (rule : Rule A.State) (again : Repeats A.State) (s : A.State)
+        → (input fewer : List ℕ) (ps : List Portion) → IsCutWithout rule again s input ps fewer
+        → IsCut fewer (without_repeats rule again s ps) }
+    ensures list { (rule : Rule A.State) (again : Repeats A.State) → LeavesState rule again
+        → (s : A.State) (ps : List Portion)
+        → after_all rule s ps ≡ after_all rule s (without_repeats rule again s ps) }
 {}

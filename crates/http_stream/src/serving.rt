@@ -2,13 +2,12 @@
 
 ghost use Rattle.std.specs.Prelude.{◌≡◌, true};
 ghost use Rattle.desk_types.specs.Wire.{inner_of};
-ghost use Rattle.desk_answers.specs.Ledger.{ForLists};
 ghost use Rattle.desk_answers.specs.Counts.{CanCountAnswer};
 ghost use Rattle.desk_answers.specs.Shown.{CanCountRun, CountsRun};
 ghost use Rattle.http_stream.specs.Answers.{reply_told};
 ghost use Rattle.http_stream.specs.Cut.{is_head, is_last};
 ghost use Rattle.http_stream.specs.Portions.{IsTaken, portion_of};
-ghost use Rattle.http_stream.specs.Stream.{AnswersConnection, AnswersPortion, SendsPortion, ShowsSent, StaysLent, has_body};
+ghost use Rattle.http_stream.specs.Stream.{AnswersConnection, AnswersPortion, ForStates, SendsPortion, ShowsSent, StaysLent, has_body};
 
 use crate::answer::send_answer;
 use crate::portion::{TakenPortion, method_of, take_portion, target_of};
@@ -19,19 +18,21 @@ use desk_types::{MOST_READS, Wire};
 use std::alloc::Global;
 use std::io::{Read, Write};
 
-/// Answers whole requests from a history that it stores.
+/// Answers whole requests from a state that it stores.
 pub trait Handler {
     ghost use Rattle.std.specs.Prelude.{◌≡◌};
     ghost use Rattle.std.specs.Borrow.{GName};
-    ghost use Rattle.desk_answers.specs.Ledger.{Ledger, ForLists};
     ghost use Rattle.http_stream.specs.Answers.{response_told};
-    ghost use Rattle.http_stream.specs.Stream.{RuleBy, AnswersRequest};
+    ghost use Rattle.http_stream.specs.Stream.{Rule, ForStates, AnswersRequest};
 
-    /// The handler's rule, from its rules and greatest number.
-    ghost rule: { RuleBy };
+    /// The states that a handler can represent.
+    ghost State: { Type 0 };
 
-    /// The rules, the greatest number and the history that the handler represents.
-    ghost Stands: { Self → Ledger → Type 0 };
+    /// The handler's rule.
+    ghost rule: { Rule State };
+
+    /// The state that the handler represents.
+    ghost Stands: { Self → State → Type 0 };
 
     /// The condition that each call requires and restores.
     ghost Ready: { Self → Type 0 };
@@ -42,16 +43,16 @@ pub trait Handler {
     /// The borrow that the handler holds, which each call keeps. So the lender knows the value that comes back.
     ghost held: { Self → GName };
 
-    /// Answers a request, possibly with Unavailable, which leaves the history unchanged.
+    /// Answers a request, possibly with Unavailable, which leaves the state unchanged.
     fn handle(&mut self, alloc: Global, method: &[u8], target: &[u8], body: &[u8]) -> Response
         requires ready { Ready self.old }
         ensures ready { Ready self.new }
         ensures trusts { Trusts self.new → Trusts self.old }
         ensures held { held self.new ≡ held self.old }
-        ensures told { ForLists Stands Trusts self.old self.new
-            (λ G H. AnswersRequest (rule G.rules G.greatest)
-            (record { method = method.now; target = target.now; body = body.now }) G.history
-            (response_told result) H) };
+        ensures told { ForStates Stands Trusts self.old self.new
+            (λ s. AnswersRequest rule
+            (record { method = method.now; target = target.now; body = body.now }) s
+            (response_told result)) };
 }
 
 /// The answer to a portion, and how it is written.
@@ -77,7 +78,7 @@ pub fn serve<R: Read, W: Write, A: Handler>(
     requires counts { CanCountRun input.old output.old }
     requires ready { A.Ready handler.old }
     ensures stays { StaysLent A.Ready A.Trusts A.held handler.old handler.new }
-    ensures answers { ForLists A.Stands A.Trusts handler.old handler.new
+    ensures answers { ForStates A.Stands A.Trusts handler.old handler.new
         (AnswersConnection A.rule (R.remaining (inner_of input.old))
         (R.remaining (inner_of input.new)) (W.contents (inner_of output.old))
         (W.contents (inner_of output.new)) result) }
@@ -118,7 +119,7 @@ fn serve_portion<W: Write, A: Handler>(
     requires counts { CanCountAnswer output.old served.old }
     requires ready { A.Ready handler.old }
     ensures stays { StaysLent A.Ready A.Trusts A.held handler.old handler.new }
-    ensures answers { ForLists A.Stands A.Trusts handler.old handler.new
+    ensures answers { ForStates A.Stands A.Trusts handler.old handler.new
         (SendsPortion A.rule (portion_of block.now taken) (W.contents (inner_of output.old))
         served.old (W.contents (inner_of output.new)) served.new result) }
     ensures sent { ShowsSent (is_last (portion_of block.now taken)) result output.old output.new
@@ -139,9 +140,8 @@ fn answer_portion<A: Handler>(
     requires taken { IsTaken block.now taken }
     requires ready { A.Ready handler.old }
     ensures stays { StaysLent A.Ready A.Trusts A.held handler.old handler.new }
-    ensures told { ForLists A.Stands A.Trusts handler.old handler.new
-        (λ G. AnswersPortion (A.rule G.rules G.greatest) (portion_of block.now taken) G.history
-        (reply_told result.reply)) }
+    ensures told { ForStates A.Stands A.Trusts handler.old handler.new
+        (λ s. AnswersPortion A.rule (portion_of block.now taken) s (reply_told result.reply)) }
     ensures closes { result.closes ≡ is_last (portion_of block.now taken) }
     ensures has_body { result.has_body ≡ has_body (portion_of block.now taken) }
 {

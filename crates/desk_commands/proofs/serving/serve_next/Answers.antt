@@ -1,6 +1,5 @@
 use Rattle.desk_types.proofs.Common.{inner_of, refl}
-use Rattle.desk_commands.proofs.{ClientsSeen.sees_one, ListsAfter.serves_one}
-use Rattle.gateway_http.specs.Requests.{request_rule}
+use Rattle.desk_commands.proofs.ClientsSeen.{sees_one}
 use Rattle.desk_commands.proofs.serving.serve_next.Goals as goal
 
 pub returns-clause-served : goal.returns-clause-served
@@ -21,6 +20,5 @@ returns-clause-served g c =
           client.reader (inner_of c.new-input.result) (inner_of served.new.input) c.into_inner.result
           client.writer (inner_of c.new-answers.result) (inner_of served.new.output) c.into_inner-2.result
           c.new-input.ensures.inner c.new-answers.ensures.inner c.into_inner.ensures c.into_inner-2.ensures client.ensures.ok c.leave.ensures,
-      serves_one (request_rule g.L.ReportedOwner.reports) g.L.Owner.Stands g.L.Owner.Trusts c.args.owner.now served.new.owner
-          (reads (inner_of c.new-input.result)) (reads (inner_of served.new.input)) (writes (inner_of c.new-answers.result)) (writes (inner_of served.new.output)) served.result served.ensures.answers,
+      served.ensures.answers,
     )

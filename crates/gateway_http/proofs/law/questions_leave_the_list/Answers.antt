@@ -2,4 +2,4 @@ use Rattle.gateway_http.proofs.GetsLeaveLists.{get-stays}
 use Rattle.gateway_http.proofs.law.questions_leave_the_list.Goals as goal
 
 pub returns : goal.returns
-returns c = λ reports rules greatest H target. get-stays reports (record { rules = rules; greatest = greatest; history = H }) target
+returns c = get-stays

@@ -2,4 +2,4 @@ use Rattle.gateway_http.{proofs.RepeatsLeaveLists.repeat-stays, specs.Asked.aske
 use Rattle.gateway_http.proofs.law.repeats_leave_the_list.Goals as goal
 
 pub returns : goal.returns
-returns c = λ reports rules greatest H r e. repeat-stays reports (record { rules = rules; greatest = greatest; history = H }) r.body (asked_of r.method r.target) e
+returns c = λ reports G r e. repeat-stays reports G r.body (asked_of r.method r.target) e

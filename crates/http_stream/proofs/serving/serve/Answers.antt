@@ -31,7 +31,7 @@ portions-init g c =
     }
 
 pub returns-in-Ok-true-clause-answers : goal.returns-in-Ok-true-clause-answers
-returns-in-Ok-true-clause-answers g c = λ G stands trusts.
+returns-in-Ok-true-clause-answers g c = λ s stands trusts.
     let inv = c.portions.invariant in
     let asked = g.R.Read.remaining (inner_of c.args.input.now) in
     let before = source c.portions.block (g.R.Read.remaining (inner_of c.portions.input)) in
@@ -42,18 +42,18 @@ returns-in-Ok-true-clause-answers g c = λ G stands trusts.
     let contents = g.W.Write.contents in
     let all = goes_on g.A.Handler.rule g.A.Handler.Stands g.A.Handler.Trusts inv.portions (p ∷ []) c.args.handler.now c.portions.handler c.serve_portion.new.handler
     (contents (inner_of c.args.output.now)) (contents (inner_of c.portions.output)) (contents (inner_of c.serve_portion.new.output)) none_served c.portions.served c.serve_portion.new.served
-    c.serve_portion.ensures.stays.trusts inv.answered c.in-Ok-true.ensures.answers G stands trusts in
+    c.serve_portion.ensures.stays.trusts inv.answered c.in-Ok-true.ensures.answers s stands trusts in
     let last : is_last p ≡ true = sym c.in-Ok-true.ensures.sent.last ∙ c.in-Ok-true.field-0-test in
     (all.0, all.1, (inv.portions ++ p ∷ [], all.2.0, last_goes asked before behind inv.portions p inv.gone took last, all.2.1))
 
 pub returns-in-Ok-None-clause-answers : goal.returns-in-Ok-None-clause-answers
-returns-in-Ok-None-clause-answers g c = λ G stands trusts.
+returns-in-Ok-None-clause-answers g c = λ s stands trusts.
     let inv = c.portions.invariant in
     let asked = g.R.Read.remaining (inner_of c.args.input.now) in
     let before = source c.portions.block (g.R.Read.remaining (inner_of c.portions.input)) in
     let behind = source c.take_portion.new.block (g.R.Read.remaining (inner_of c.take_portion.new.input)) in
     let ends = (subst (λ (o : Option TakenPortion). TakesNext o c.take_portion.new.block.bytes before behind) c.in-Ok-None.field-0-is c.in-Ok-None.ensures.next).portion in
-    let all = inv.answered G stands trusts in
+    let all = inv.answered s stands trusts in
     (all.0, all.1, (inv.portions, all.2.0, end_comes asked before inv.portions inv.gone ends, all.2.1))
 
 pub portions-preserved : goal.portions-preserved

@@ -10,4 +10,4 @@ returns-in-Ok-clause-told g c = λ G stands trusts.
 pub returns-in-Err-clause-told : goal.returns-in-Err-clause-told
 returns-in-Err-clause-told g c = λ G stands trusts.
     let told = c.in-Err.ensures.told G stands trusts in
-    (G.history, told.1, (true, c.unavailable.ensures, refl))
+    (G, told.1, (true, c.unavailable.ensures, refl))
