@@ -110,35 +110,64 @@ def test_what_a_restore_took_off_is_said_by_each_seal(
     assert called.ends("seal") == 0 and called.ends("check") == 0
 
 
-@pytest.mark.parametrize(
-    "desk, status, lost",
-    [
-        ("sealed", 0, 0),
-        ("went on", 4, 1),
-        ("no database", 4, 1),
-        ("a broken page", 4, 1),
-        ("empty", 4, 1),
-        ("gone", 0, 0),
-    ],
-)
-def test_what_the_page_says_of_a_restore(called: Called, desk: str, status: int, lost: int) -> None:
-    """docs/line-folder.md, "Restore"; the dry run has the same status, and changes nothing."""
+def goes_on(called: Called) -> None:
+    files.accept(called.line.desk, ["c", "d"])
+
+
+def is_taken_off(called: Called) -> None:
+    goes_on(called)
+    called.ends("restore")
+
+
+def is_damaged(how: str) -> Callable[[Called], object]:
+    return lambda called: called.line.desk.write_bytes(DAMAGED[how](called.line.desk.read_bytes()))
+
+
+PAGE = (ROOT / "docs/line-folder.md").read_text(encoding="utf-8")
+ROWS = {  # docs/line-folder.md, "Restore": by the first cell, the others
+    row[0]: row[1:]
+    for row in (line[2:-2].split(" | ") for line in PAGE.splitlines() if "| `restore L1" in line)
+}
+DESKS: list[tuple[str, Callable[[Called], object]]] = [
+    ("was sealed, and accepted nothing since", lambda called: None),
+    ("accepted 2 commands since it was sealed", goes_on),
+    *(("can't be read", is_damaged(how)) for how in DAMAGED),
+    ("isn't there", lambda called: called.line.desk.unlink()),
+    ("accepted nothing since the restore that took 2 commands off", is_taken_off),
+]
+
+
+def test_the_page_predicts_five_restores() -> None:
+    assert len(ROWS) == 5 and {desk for desk, _ in DESKS} == ROWS.keys()
+
+
+@pytest.mark.parametrize("desk, happens", DESKS)
+def test_a_restore_is_as_its_page_predicts(
+    called: Called,
+    desk: str,
+    happens: Callable[[Called], object],
+    capsys: pytest.CaptureFixture[str],
+) -> None:
+    """By the page alone; the dry run says so and changes nothing, and the restore does it."""
+    call, file, is_kept, again, status = ROWS[desk]
     files.accept(called.line.desk, ["b"])
     assert called.ends("seal") == 0
-    if desk == "went on":
-        files.accept(called.line.desk, ["c"])
-    elif desk in DAMAGED:
-        called.line.desk.write_bytes(DAMAGED[desk](called.line.desk.read_bytes()))
-    elif desk == "gone":
-        called.line.desk.unlink()
-    assert called.ends("restore", "--dry-run") == status
-    assert not called.line.lost.exists() or not [*called.line.lost.iterdir()]
-    assert called.ends("restore") == status
-    kept = [*called.line.lost.glob("*.desk")]
-    assert uids(called.line.desk) == ["a", "b"] and len(kept) == lost
-    if desk == "went on":
-        assert called.ends("restore", kept[0].stem[:6]) == 0
-        assert uids(called.line.desk) == ["a", "b", "c"] and not [*called.line.lost.iterdir()]
+    happens(called)
+    lost = sorted(called.line.lost.iterdir())
+    words = [it.stem[:6] for it in lost if "lost" in call]
+    capsys.readouterr()
+    assert called.ends("restore", *words, "--dry-run") == int(status)
+    said = capsys.readouterr().out
+    assert sorted(called.line.lost.iterdir()) == lost
+    those = called.line.sealed if file == "the newest sealed file" else called.line.lost
+    assert [f"{it} becomes" in said for it in those.iterdir()] == [True]
+    assert ("the desk goes to lost/" in said) == (is_kept == "yes")
+    assert ("can't be read" in said) == (again == "nobody knows")
+    assert (f"{again} of S have to be sent again" in said) == (again[0].isdigit())
+    assert called.ends("restore", *words) == int(status) and capsys.readouterr().out == said
+    assert uids(called.line.desk) == ["a", "b", *(["c", "d"] if words else [])]
+    assert bool([*called.line.lost.glob("*.desk")]) == (is_kept == "yes")
+    assert called.ends("seal") == int(status)
 
 
 def uids(desk: Path) -> list[str]:

@@ -40,13 +40,16 @@ class RestorePlan:
     taken_off: str  # the name that the desk gets in lost/; empty if there is none
     commands: int | None  # of that desk; none if it can't be read
     lacked: list[Lacked]
+    is_kept: bool = True  # in lost/: a desk is not, if the file has all of it
 
     def text(self) -> str:
         """The same, for who decides about it."""
         lines = [f"{self.file.path} becomes the desk: {self.file.commands} commands"]
-        if self.taken_off:
+        if self.taken_off and self.is_kept:
             known = "it can't be read" if self.commands is None else f"{self.commands} commands"
             lines.append(f"the desk goes to lost/{self.taken_off}: {known}")
+        elif self.taken_off:
+            lines.append(f"lost/ keeps no desk: the file has all of its {self.commands} commands")
         lines += [
             f"{its.commands} commands of {its.source} have to be sent again, the first of"
             f" {catalogue.spelled(its.since)}"
@@ -83,7 +86,8 @@ def plan(line: LineFolder, file: Sealed) -> RestorePlan:
         try:
             its = sealed.read(desk)
             lacked = lineage.lacking(behind, [its])
-            return RestorePlan(file, desk.name, its.commands, lacked)
+            is_kept = not lineage.is_held(its, file)
+            return RestorePlan(file, desk.name, its.commands, lacked, is_kept)
         except sealed.Damaged:
             return RestorePlan(file, desk.name, None, [])
 
