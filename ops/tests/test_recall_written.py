@@ -12,7 +12,6 @@ from lab.line import table
 from lab.recalls import lot_of, recall
 from lab.tools import Ended, Word, run, run_tool, strings, tool
 from lab.world import World
-from tracedesk_ops import chains, plant
 
 pytestmark = [pytest.mark.xdist_group("recall_written")]
 
@@ -23,7 +22,6 @@ L1-000001,Customer B,2026-04-01,again
 EVIDENCE = """SHA256SUMS asked.csv boards.csv
     certificate.json chain-1.csv chain-2.csv desk-1.txt desk-2.txt doubtful.csv pieces.csv question.txt recall.html
     reels.csv shipped.csv untraced.csv""".split()
-NOBODY = 65534
 
 
 class Written:
@@ -122,22 +120,6 @@ def test_with_a_full_standard_output_the_page_is_written(
         done = run([*words, "--html", folder / "full.html"], out=full)
     done.expect(4, "standard output: No space left")
     assert (folder / "full.html").exists()
-
-
-@pytest.mark.root
-@pytest.mark.gate
-def test_another_user_runs_the_program_itself_on_copies(world: World) -> None:
-    """Who may read the archives, and doesn't own them."""
-    file = world.first.archived[0]
-    world.folder.chmod(0o755)
-    if not (child := os.fork()):
-        status = 1
-        with contextlib.suppress(Exception):
-            os.setuid(NOBODY)
-            running = plant.Program("x", file)
-            status = int(running.how != {} or chains.can_be_opened(running, file))
-        os._exit(status)
-    assert os.waitpid(child, 0)[1] == 0
 
 
 @contextlib.contextmanager

@@ -1,9 +1,8 @@
 """The proved program over the files of a line, tracedesk-chain: for tracedesk-recall and
 tracedesk-ops.
 
-It opens each file as an audit does: for writing, under a lock, with a log beside it, as the file's
-owner where root calls. It refuses a file that has several hard links. So what has those, is locked,
-or can't be written is copied first.
+It opens each file as an audit does: for writing, with a log beside it. Nobody writes a sealed file,
+so it gets copies, as the file's owner where root calls.
 
     chains.asked(chain, ["check"], [path for path in archives], archives).ends
 
@@ -17,7 +16,6 @@ and both say the same of it.
 from __future__ import annotations
 
 import concurrent.futures
-import contextlib
 import csv
 import dataclasses
 import os
@@ -29,11 +27,11 @@ import tempfile
 from collections.abc import Iterable, Iterator, Sequence
 from typing import Any
 
-from tracedesk_ops import copies, parts, plant, sealed
+from tracedesk_ops import parts, plant, sealed
 from tracedesk_ops.files import Room
 
-# statuses of the program: no chain; a file was refused; the first one was begun from another
-NO_CHAIN, REFUSED, BEGUN = (1, 3, 5)
+# statuses of the program: no chain; the first file was begun from another
+NO_CHAIN, BEGUN = (1, 5)
 OPTION = re.compile(
     ": differs (minute|slot|board .* in work old)"
 )  # what --at, --no-loads and --with-board-in-work make
@@ -124,7 +122,7 @@ def asked(
         first, end = span[0], span[1] + 1
         middle = ["--from-middle"] * (is_middle or first > 0)
         its = files[first:end], digits[first:end]
-        return in_turn(chain, words, middle, *its, progress, first > 0)
+        return in_turn(chain, words, middle, *its, progress)
 
     with concurrent.futures.ThreadPoolExecutor(len(spans)) as threads:
         return joined(spans, list(threads.map(of, spans)))
@@ -155,18 +153,14 @@ def in_turn(
     files: Files,
     digits: Digits,
     progress: parts.Progress,
-    is_shared: bool,
 ) -> Answer:
-    """What the program answers about files that it reads one after the other; the first may be
-    another part's last.
-    """
+    """What the program answers about files that it reads one after the other."""
     runs: list[tuple[int, Answer]] = []
     options: list[str] = []
     first, last = 0, len(files)
     while first < len(files):
         try:
-            asks, shared = [*words, *middle], is_shared and first == 0
-            runs.append((first, asked_of(chain, asks, files[first:last], progress, shared)))
+            runs.append((first, asked_of(chain, [*words, *middle], files[first:last], progress)))
             first, last, middle = last, len(files), ["--from-middle"]
         except NoAnswer as fault:
             if (
@@ -199,43 +193,16 @@ def want_links(files: Files, digits: Digits, ends: Sequence[End]) -> None:
             )
 
 
-def asked_of(
-    chain: str, words: list[str], files: Files, progress: parts.Progress, is_shared: bool
-) -> Answer:
-    """The same of files without such links. If one can't be opened where it is, as another call has
-    it, copies of all are asked. A first file that is shared is copied, since another part has it
-    open."""
+def asked_of(chain: str, words: list[str], files: Files, progress: parts.Progress) -> Answer:
+    """The same of files without such links."""
     run = plant.Program(chain, files[0])
-    here = [can_be_opened(run, it) for it in files]
-    here[0] = here[0] and not is_shared
-    try:
-        return asked_once(run, words, files, progress, here)
-    except NoAnswer as fault:
-        if fault.status != REFUSED or not str(fault).endswith(": Unavailable"):
-            raise
-    return asked_once(run, words, files, progress, [False] * len(files))
-
-
-def asked_once(
-    run: plant.Program, words: list[str], files: Files, progress: parts.Progress, here: list[bool]
-) -> Answer:
     before = [state_of(it) for it in files]
     with Room() as room:
-        plant.want_room(
-            room,
-            sum(os.stat(it).st_size for it, stays in zip(files, here) if not stays),
-            "copies of the files: TMPDIR names another folder",
-        )
+        what = "copies of the files: TMPDIR names another folder"
+        plant.want_room(room, sum(os.stat(it).st_size for it in files), what)
         run.give(room)
-        named = [
-            it if stays else copied(run, it, pathlib.Path(room, str(number)))
-            for number, (it, stays) in enumerate(zip(files, here), 1)
-        ]
-        try:
-            answer = said_of(run, words, named, progress)
-        finally:
-            for it in (it for it, stays in zip(files, here) if stays and not plant.is_open(it)):
-                plant.without_log(it)
+        copies = [copied(run, it, pathlib.Path(room, str(n))) for n, it in enumerate(files, 1)]
+        answer = said_of(run, words, copies, progress)
     if changed := [it for it, then in zip(files, before) if state_of(it) != then]:
         raise plant.Fault(f"{changed[0]}: it was changed while it was asked: ask again")
     return answer
@@ -293,19 +260,6 @@ def records(text: Iterable[str]) -> Iterator[tuple[list[str], str]]:
     for fields in csv.reader(lines()):
         yield fields, "".join(read)
         read.clear()
-
-
-def can_be_opened(run: plant.Program, file: pathlib.Path) -> bool:
-    with contextlib.suppress(OSError), open(file, "r+b") as it:
-        about = os.fstat(it.fileno())
-        return (
-            str(file).isprintable()
-            and about.st_nlink == 1
-            and about.st_uid == (run.uid if run.how else os.geteuid())
-            and os.access(file.parent, os.W_OK)
-            and not copies.is_locked(it)
-        )
-    return False
 
 
 def copied(run: plant.Program, file: pathlib.Path, folder: pathlib.Path) -> pathlib.Path:

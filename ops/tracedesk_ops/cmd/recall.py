@@ -23,7 +23,7 @@ only if they are a chain. Each file names the archive from which its desk was be
 desk is asked for that too, by a message that it always refuses. So a missing archive, or a URL of
 another desk, is reported. Standard error says who could not be asked, and why: then the answer may
 lack boards. tracedesk-chain is the one next to tracedesk, or that of CHAIN in the environment.
-Archives that the caller can't write, or another one has, are copied for it into TMPDIR.
+Archives are copied for it into TMPDIR.
 
 A lot is only its name: --part PART leaves out other parts that came in a lot of that name. A reel
 that changed lines is followed under its other names. ATTRIBUTE is reel, part, lot, date_code,
