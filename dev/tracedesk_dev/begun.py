@@ -9,17 +9,13 @@ import pathlib
 from tracedesk_ops import carry, copies, desk_tables, sealed
 
 
-def begun(
-    file: pathlib.Path, at: int | None = None, loads: bool = True
-) -> tuple[list[str], list[str]]:
+def begun(file: pathlib.Path, at: int | None = None) -> tuple[list[str], list[str]]:
     """The messages, and what the new desk doesn't know. `at` is its minute, if that is another."""
     with copies.copied(file) as copy:
         copies.fold(copy)
-        lines, carrier = carry.begun(
-            desk_tables.DeskTables(copy), sealed.digits_of(copy), at, loads
-        )
+        lines, carrier = carry.begun(desk_tables.DeskTables(copy), sealed.digits_of(copy), at)
     return [str(line) for line in lines], [*carrier.notes()]
 
 
-def messages_of(file: pathlib.Path, at: int | None = None, loads: bool = True) -> list[bytes]:
-    return [line.encode() for line in begun(file, at, loads)[0]]
+def messages_of(file: pathlib.Path, at: int | None = None) -> list[bytes]:
+    return [line.encode() for line in begun(file, at)[0]]

@@ -52,9 +52,9 @@ def begun(request: pytest.FixtureRequest, program: pathlib.Path, folder: pathlib
     return Begun(program, folder, request.param)
 
 
-def begin(old: Desk, new: Desk, at: int | None = None, loads: bool = True) -> list[Message]:
+def begin(old: Desk, new: Desk, at: int | None = None) -> list[Message]:
     """Begins a desk, which has to accept all messages, and returns these."""
-    lines = goes_on.messages_of(old.file, at, loads)
+    lines = goes_on.messages_of(old.file, at)
     for line, answer in zip(lines, new.feed(lines), strict=True):
         assert answer["Answer"] == "Accepted", f"{line[:300]!r} is answered {answer}"
     return [json.loads(line) for line in lines]
@@ -103,19 +103,6 @@ def test_nothing_acts_that_the_old_desk_accepted(begun: Begun) -> None:
 def last_minute(desk: Desk) -> int:
     ((minute,),) = desk.rows("SELECT max(effective) FROM accepted")
     return int(minute)
-
-
-def test_desk_that_is_begun_without_its_loads(begun: Begun) -> None:
-    """It is alike to the old one once that has unloaded its slots."""
-    begin(begun.old, begun.new, loads=False)
-    minute = last_minute(begun.old)
-    slots = begun.old.rows("SELECT DISTINCT machine, slot FROM mount")
-    unloads = [
-        say("MaterialsUnloaded", f"on-{number}", minute, Machine=machine, Slot=slot)
-        for number, (machine, slot) in enumerate(slots)
-    ]
-    begun.old.feed(texts(unloads))
-    expect_alike(begun.old, begun.new)
 
 
 def test_desk_that_is_begun_later(begun: Begun) -> None:

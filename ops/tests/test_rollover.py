@@ -13,7 +13,7 @@ from lab.desk import Desk, rows_of
 from lab.line import Line
 from lab.messages import part
 from lab.shifted import Shifted
-from lab.tools import Word, started
+from lab.tools import started
 from lab.waits import PATIENCE, stays, wait_for
 from tracedesk_ops import catalogue, copies, sealed
 
@@ -136,17 +136,15 @@ def test_slots_kits_and_cards_are_those_of_one_desk(thrice: Line, shifted: Shift
 # --- One roll-over
 
 
-@pytest.mark.parametrize("off, words", [(0, ["--no-loads"]), (1440, []), (-1440, ["--no-loads"])])
-def test_new_desk_with_options(half: Line, off: int, words: list[Word]) -> None:
-    """Its minute, and whether something is mounted, are what was asked for."""
+@pytest.mark.parametrize("off", [1440, -1440])
+def test_new_desk_at_another_minute(half: Line, off: int) -> None:
     half.end()
     ((minute,),) = half.rows("SELECT max(effective) FROM accepted")
     half.serve()
-    at: list[Word] = ["--at", catalogue.spelled(minute + off)] if off else []
-    half.rollover(*words, *at).expect(0, "tracedesk-chain says of both desks: alike")
+    at = catalogue.spelled(minute + off)
+    half.rollover("--at", at).expect(0, "tracedesk-chain says of both desks: alike")
     half.end()
-    query = "SELECT (SELECT max(effective) FROM accepted), (SELECT count(*) > 0 FROM mount)"
-    assert half.rows(query) == [(minute + off, int(not words))]
+    assert half.rows("SELECT max(effective) FROM accepted") == [(minute + off,)]
 
 
 def test_board_in_work_is_a_reason_to_refuse(half: Line, shifted: Shifted) -> None:

@@ -89,7 +89,9 @@ class Messages:
 class Carrier:
     """Tells an archived desk to a new one whose last minute is `end`."""
 
-    def __init__(self, archive: DeskTables, messages: Messages, end: int, loads: bool) -> None:
+    def __init__(
+        self, archive: DeskTables, messages: Messages, end: int, loads: bool = True
+    ) -> None:
         self.archive, self.messages, self.end = archive, messages, end
         self.exposure = {
             name: reel.exposure(archive.minute) for name, reel in archive.reels.items()
@@ -224,21 +226,12 @@ class Carrier:
                 f"board {board} is in work on {machine}: the new desk doesn't know what is placed"
                 " on it"
             )
-        if not self.mounts:
-            for (machine, slot), tape in archive.tapes.items():
-                for reel in tape:
-                    gone = reel.level != "1" and self.exposure[reel.reel] >= (reel.limit() or 0)
-                    yield (
-                        f"reel {reel.reel} is to be loaded on {machine}, slot"
-                        f" {slot}{', after a bake' if gone else ''}"
-                    )
 
 
 def begun(
     archive: DeskTables,
     checksum: str,
     at: int | None = None,
-    loads: bool = True,
 ) -> tuple[list[str | Setup], Carrier]:
     """The messages of a new desk that begins where an archived one with this checksum ended, and
     who tells what is not in them. It has the archived desk's newest heads."""
@@ -246,7 +239,7 @@ def begun(
         raise NotCarried("it has accepted no command, so there is nothing to carry over")
     end = archive.minute if at is None else min(at, archive.minute)
     messages = Messages(f"begin-{checksum[:model.DIGITS]}", "begin")
-    carrier = Carrier(archive, messages, end, loads)
+    carrier = Carrier(archive, messages, end)
     carrier.all()
     if at is not None and at > end:
         messages.say(at, "ClockSet")

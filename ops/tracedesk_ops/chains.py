@@ -34,7 +34,7 @@ from tracedesk_ops.files import Room
 NO_CHAIN, BEGUN = (1, 5)
 OPTION = re.compile(
     ": differs (minute|slot|board .* in work old)"
-)  # what --at, --no-loads and --with-board-in-work make
+)  # what --at and --with-board-in-work make, and made --no-loads of 1.0.0
 FILE = re.compile(
     r"[^:]*: (.*): (\d+) commands, last minute (\d+|none)(?:, begun from (.*))?; (\d+) to go"
 )

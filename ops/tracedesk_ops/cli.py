@@ -5,7 +5,7 @@ usage: tracedesk-ops make LINE [--from FOLDER]
        tracedesk-ops check LINE
        tracedesk-ops restore LINE [FILE] [--dry-run]
        tracedesk-ops rollover LINE [--due | --if-due] [--pieces N] [--with-board-in-work]
-                                   [--at TIME] [--no-loads]
+                                   [--at TIME]
        tracedesk-ops import | label | events ..    each has a --help of its own
 
   make      makes the first desk of a line, an empty one; or takes a folder of 1.0.0 over: its desk
@@ -40,7 +40,7 @@ A roll-over begins the new desk while the old one runs, at a moment that has no 
 tracedesk-chain compares both: it is proved that the new desk then answers as the old one would
 have. Then the service is stopped for some seconds, and the new desk gets what the old one has taken
 since. Until it has the old one's name a fault or a kill changes nothing; call it again then. With
---at, --no-loads or --with-board-in-work all of it is done while the service is stopped.
+--at or --with-board-in-work all of it is done while the service is stopped.
 
 Exit status: 0 done, and all of it; 1 the answer is no: the desk can't run, or no roll-over is due;
 2 bad command line, or there is no program; 3 not now, or not complete: a line says what to do;
@@ -143,7 +143,7 @@ def roll_over(asked: argparse.Namespace) -> int:
 
 
 def rolled_over(line: LineFolder, asked: argparse.Namespace, service: Service) -> Sealed | None:
-    wanted = successor.Wanted(asked.at, not asked.no_loads, asked.with_board_in_work)
+    wanted = successor.Wanted(asked.at, asked.with_board_in_work)
     audit = audit_of(asked)
 
     def audited(file: Path) -> int:
@@ -296,11 +296,6 @@ def offer_rollover(reader: argparse.ArgumentParser) -> None:
         type=options.minute_of,
         metavar="TIME",
         help="the new desk's minute, if the old one's clock was wrong, as 2026-03-02T06:00:00Z",
-    )
-    reader.add_argument(
-        "--no-loads",
-        action="store_true",
-        help="leave the slots empty: each reel has to be loaded by a scan",
     )
     options.offer_service(reader)
 

@@ -31,7 +31,6 @@ class Wanted:
     """What the new desk is to have otherwise than the old one."""
 
     at: int | None = None  # its minute, if the old one's clock was wrong
-    loads: bool = True  # whether the reels stay on their slots
     is_in_work: bool = False  # whether a board may be, of which it then knows nothing
 
     def has_options(self) -> bool:
@@ -93,7 +92,7 @@ class Successor:
         know.
         """
         self.path.unlink(missing_ok=True)
-        lines, carrier = carry.begun(carried, file.digits, at, self.wanted.loads)
+        lines, carrier = carry.begun(carried, file.digits, at)
         answered = 0
         for is_setup, group in itertools.groupby(lines, lambda it: isinstance(it, carry.Setup)):
             those = list(group)
@@ -157,8 +156,6 @@ class Successor:
         messages = carry.Messages(f"asked-{digits}", "asked")
         for machine, board in carried.in_work:
             messages.say(carried.minute, "WorkCompleted", Machine=machine, Board=board)
-        for machine, slot in () if self.wanted.loads else carried.tapes:
-            messages.say(carried.minute, "MaterialsUnloaded", Machine=machine, Slot=slot)
         if (self.wanted.at or 0) > carried.minute:
             messages.say(self.wanted.at or 0, "ClockSet")
         return [*messages.lines]
