@@ -2,18 +2,16 @@
 from __future__ import annotations
 
 import contextlib
-import os
 import pathlib
-import shutil
 import sqlite3
 import subprocess
 import sys
+from collections.abc import Callable
 
 import pytest
 
 from lab import files
-from lab.folders import CALLS, audit, line_of, rolled_over, seal
-from lab.killed import killed_at
+from lab.folders import audit, killed_at_each_call, line_of, rolled_over, seal, with_log
 from tracedesk_ops import change, copies, lineage, plant, sealed
 from tracedesk_ops.line import WORK, LineFolder, NotALine
 
@@ -55,20 +53,6 @@ def test_the_whole_disk_is_no_line() -> None:
 def uids(file: Path) -> list[str]:
     with contextlib.closing(sqlite3.connect(file)) as database:
         return [uid for (uid,) in database.execute("SELECT uid FROM accepted ORDER BY number")]
-
-
-def with_log(line: LineFolder, uid: str) -> None:
-    """The desk has its last command in its log alone, as after SIGTERM."""
-    with sqlite3.connect(line.desk) as database:
-        database.execute("PRAGMA journal_mode = WAL")
-        database.execute("INSERT INTO accepted SELECT 2, ?, 'S', 0, 2, 'PartDefined\tb', ''", [uid])
-        database.commit()
-        for tail in ("", "-wal"):
-            shutil.copyfile(f"{line.desk}{tail}", f"{line.path}/copy{tail}")
-    database.close()
-    for tail in ("", "-wal"):
-        os.replace(f"{line.path}/copy{tail}", f"{line.desk}{tail}")
-    assert copies.log_of(line.desk)
 
 
 def test_a_restore_does_what_was_said_and_keeps_the_desk(folder: Path) -> None:
@@ -152,47 +136,36 @@ def test_behind_a_restored_file_are_its_archives(folder: Path) -> None:
         change.plan(line, newest)
 
 
-def test_a_restore_that_is_killed_at_any_call_loses_nothing(folder: Path) -> None:
-    calls: list[str] = []
-    number = 0
-    while len(calls) == number:
-        number += 1
-        line = line_of(folder / f"L{number}", "a")
+@pytest.mark.parametrize("has_log", [True, False], ids=["with a log", "without"])
+def test_a_restore_that_is_killed_at_any_call_loses_nothing(folder: Path, has_log: bool) -> None:
+    """A kill before the rename leaves nothing that the next seal finds lost."""
+
+    def begin(line: LineFolder) -> Callable[[], object]:
         older = seal(line)
-        with_log(line, "b")
+        with_log(line, "b") if has_log else files.accept(line.desk, ["b"])
         its = change.plan(line, older)
-        with killed_at(number, CALLS) as calls:
-            change.restore(line, its, audit)
-        assert not copies.log_of(line.desk) or uids(line.desk) == ["a", "b"]
+        return lambda: change.restore(line, its, audit)
+
+    for line in killed_at_each_call(folder, begin):
+        older = next(file for file in lineage.of(line).files if file.commands == 1)
         there = uids(line.desk)
-        assert there == ["a", "b"] or uids(line.lost / its.taken_off) == ["a", "b"]
+        assert there == ["a", "b"] or [uids(path) for path in lost_of(line)] == [["a", "b"]]
+        assert there == ["a", "b"] or not copies.log_of(line.desk)
+        if there == ["a", "b"] and not has_log:
+            made = seal(line)
+            found = lineage.of(line)
+            assert found.chain == [made] and not found.faults and not found.lost
         restored(line, older)
         assert uids(line.desk) == ["a"] and not line.work.exists()
         seal(line, "c")
         found = lineage.of(line)
-        assert not found.faults and [lacked.commands for lacked in found.lacked] == [1]
+        assert [lacked.commands for lacked in found.lacked] == [1]
         seal(line, "b")
         assert not lineage.of(line).lacked
-    assert number > 10
 
 
-def test_a_kill_before_the_rename_leaves_nothing_that_the_next_seal_finds_lost(
-    folder: Path,
-) -> None:
-    calls: list[str] = []
-    number = 0
-    while len(calls) == number:
-        number += 1
-        line = line_of(folder / f"L{number}", "a")
-        older = seal(line)
-        files.accept(line.desk, ["b"])
-        its = change.plan(line, older)
-        with killed_at(number, CALLS) as calls:
-            change.restore(line, its, audit)
-        if uids(line.desk) == ["a", "b"]:
-            made = seal(line)
-            found = lineage.of(line)
-            assert found.chain == [made] and not found.faults and not found.lost
+def lost_of(line: LineFolder) -> list[Path]:
+    return sorted(line.lost.glob("*.desk"))
 
 
 def test_the_desk_of_the_plan_is_taken_off_and_no_other(folder: Path) -> None:
@@ -302,16 +275,14 @@ def test_without_an_archive_nothing_is_taken_over_until_it_is_back(folder: Path)
 
 
 def test_a_take_over_that_is_killed_at_any_call_is_called_again(folder: Path) -> None:
-    old, number = old_folder(folder / "old"), 0
-    calls: list[str] = []
-    while len(calls) == number:
-        number += 1
-        (folder / f"L{number}").mkdir()
-        line = LineFolder(folder / f"L{number}")
-        with killed_at(number, CALLS) as calls:
-            change.take_over(line, old, audit)
+    old = old_folder(folder / "old")
+
+    def begin(line: LineFolder) -> Callable[[], object]:
+        line.desk.unlink()
+        return lambda: change.take_over(line, old, audit)
+
+    for line in killed_at_each_call(folder, begin):
         if not line.desk.exists():
             change.take_over(line, old, audit)
         found = lineage.of(line)
         assert not found.faults and len(found.chain) == 3 and len(found.lacked) == 1
-    assert number > 15

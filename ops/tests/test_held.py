@@ -96,7 +96,6 @@ def commands(file: pathlib.Path) -> dict[str, int]:
         return dict(database.execute("SELECT uid, number FROM accepted"))
 
 
-@pytest.mark.gate
 def test_a_copy_under_load_ends_in_its_marker_and_has_what_was_acknowledged(
     served: Desk, sender: Sender, folder: pathlib.Path
 ) -> None:
@@ -121,7 +120,6 @@ def tried(served: Desk, folder: pathlib.Path, script: str = TRY) -> "subprocess.
     return subprocess.Popen(words, stdout=subprocess.PIPE, start_new_session=True)
 
 
-@pytest.mark.gate
 @pytest.mark.parametrize("how", [signal.SIGSTOP, signal.SIGTSTP, signal.SIGKILL])
 def test_a_tool_that_hangs_or_is_killed_holds_nobody(
     served: Desk, folder: pathlib.Path, how: signal.Signals
@@ -136,7 +134,6 @@ def test_a_tool_that_hangs_or_is_killed_holds_nobody(
     assert how == signal.SIGKILL or waited > 1  # the watchdog waits as long as a copy may take
 
 
-@pytest.mark.gate
 def test_a_tool_that_is_stopped_before_it_reads_the_answer_holds_nobody(
     served: Desk, folder: pathlib.Path
 ) -> None:
@@ -149,7 +146,6 @@ def test_a_tool_that_is_stopped_before_it_reads_the_answer_holds_nobody(
         assert tool.wait() == -signal.SIGKILL
 
 
-@pytest.mark.gate
 def test_a_sender_that_holds_the_desk_ends_a_copy_and_not_the_tool(
     served: Desk, folder: pathlib.Path
 ) -> None:
@@ -162,7 +158,6 @@ def test_a_sender_that_holds_the_desk_ends_a_copy_and_not_the_tool(
         link.close()
 
 
-@pytest.mark.gate
 def test_a_copy_that_takes_long_is_given_up(
     served: Desk, folder: pathlib.Path, monkeypatch: pytest.MonkeyPatch
 ) -> None:
@@ -172,7 +167,6 @@ def test_a_copy_that_takes_long_is_given_up(
     assert served.say("PartDefined", PartNumber="AFTER")["Answer"] == "Accepted"
 
 
-@pytest.mark.gate
 @pytest.mark.parametrize("good", [1, 3, 4])
 def test_a_copy_is_good_if_it_has_just_the_commands_until_its_marker(
     served: Desk, folder: pathlib.Path, good: int
@@ -194,7 +188,6 @@ def test_a_copy_is_good_if_it_has_just_the_commands_until_its_marker(
     assert next(numbers) == min(good, held.TRIES)
 
 
-@pytest.mark.gate
 def test_a_copy_of_a_file_that_another_program_writes_is_refused(
     served: Desk, folder: pathlib.Path, monkeypatch: pytest.MonkeyPatch
 ) -> None:
@@ -209,7 +202,6 @@ def test_a_copy_of_a_file_that_another_program_writes_is_refused(
         held.copy(served.file, served.port, marker(), folder / "copy")
 
 
-@pytest.mark.gate
 def test_a_marker_that_is_refused_gives_no_copy(served: Desk, folder: pathlib.Path) -> None:
     refused = messages.message("PartDefined", "p", source="tracedesk", PartNumber="P")
     with pytest.raises(held.NoCopy, match='"Refusal": "PartKnown"|Refused'):
@@ -218,7 +210,6 @@ def test_a_marker_that_is_refused_gives_no_copy(served: Desk, folder: pathlib.Pa
     assert served.say("PartDefined", PartNumber="AFTER")["Answer"] == "Accepted"
 
 
-@pytest.mark.gate
 def test_only_what_was_written_to_meanwhile_is_looked_at_while_the_desk_is_held(
     served: Desk, folder: pathlib.Path, monkeypatch: pytest.MonkeyPatch
 ) -> None:
@@ -238,7 +229,6 @@ def test_only_what_was_written_to_meanwhile_is_looked_at_while_the_desk_is_held(
     assert commands(to)["copy-0"] == copied.number
 
 
-@pytest.mark.gate
 @pytest.mark.parametrize("still", [0.0, 1e9])
 def test_a_file_that_was_written_to_meanwhile_is_compared(
     served: Desk, folder: pathlib.Path, monkeypatch: pytest.MonkeyPatch, still: float

@@ -27,7 +27,6 @@ def tried(sequences: int) -> None:
     )
 
 
-@pytest.mark.gate
 def test_each_step_leaves_the_files_exact_or_with_a_fault() -> None:
     tried(IN_GATE)
 
@@ -81,7 +80,6 @@ def noticed(monkeypatch: pytest.MonkeyPatch, module: object, name: str, fault: o
         tried(PLANTED)
 
 
-@pytest.mark.gate
 @pytest.mark.parametrize(
     "module, name, fault",
     [

@@ -13,8 +13,7 @@ from typing import Any
 import pytest
 
 from lab import files
-from lab.folders import CALLS, audit, line_of, rolled_over, seal
-from lab.killed import killed_at
+from lab.folders import audit, killed_at_each_call, line_of, rolled_over, seal
 from tracedesk_ops import lineage, plant, rollover, sealed, sealing
 from tracedesk_ops.line import LineFolder
 
@@ -59,22 +58,17 @@ def test_what_was_taken_meanwhile_is_in_the_new_desk_alone(folder: Path) -> None
 def test_one_that_is_killed_at_any_call_changes_all_or_nothing(
     folder: Path, said: Sequence[tuple[str, str]]
 ) -> None:
-    calls: list[str] = []
-    number, placed = 0, 0
-    while len(calls) == number:
-        number += 1
-        line = line_of(folder / f"L{number}", "a", "b")
-        with killed_at(number, CALLS) as calls:
-            rolled_over(line, *said)
+    placed = 0
+    for line in killed_at_each_call(folder, lambda line: lambda: rolled_over(line, *said)):
         placed += rollover.was_placed(line)
         if rollover.was_placed(line) or not begun_from(line.desk):
             are_there = begun_from(line.desk) or "c" in uids(line.desk)
             assert rolled_over(line, *(() if are_there else said)).is_running
             assert not line.work.exists()
         assert begun_from(line.desk)
-        expect_once(line, "a", "b", *(uid for uid, _ in said))
+        expect_once(line, "a", *(uid for uid, _ in said))
         assert len(lineage.of(line).chain) == 2
-    assert number > 12 and placed > 1
+    assert placed > 1
 
 
 def test_one_that_fails_before_the_rename_leaves_the_old_desk_and_a_seal(

@@ -4,15 +4,15 @@ from __future__ import annotations
 import hashlib
 import os
 import pathlib
+import re
 import resource
 import shutil
-import sqlite3
+from collections.abc import Callable
 
 import pytest
 
 from lab import files
-from lab.folders import CALLS, audit, line_of, rolled_over, seal
-from lab.killed import killed_at
+from lab.folders import audit, killed_at_each_call, line_of, rolled_over, seal, with_log
 from tracedesk_ops import change, copies, lineage, plant, sealed, sealing
 from tracedesk_ops.line import Busy, LineFolder
 
@@ -48,54 +48,39 @@ def test_a_seal_is_named_by_its_content_and_nobody_writes_it(folder: Path) -> No
 
 def test_the_log_of_a_stopped_desk_is_sealed_with_it(folder: Path) -> None:
     line = line_of(folder / "L1", "a")
-    with sqlite3.connect(line.desk) as database:
-        database.execute("PRAGMA journal_mode = WAL")
-        database.execute("INSERT INTO accepted VALUES (2, 'b', 'S', 0, 2, 'PartDefined\tb', '')")
-        database.commit()
-        shutil.copyfile(line.desk, folder / "copy")
-        shutil.copyfile(f"{line.desk}-wal", folder / "copy-wal")
-    database.close()
-    for tail in ("", "-wal"):
-        shutil.move(folder / f"copy{tail}", f"{line.desk}{tail}")
-    assert copies.log_of(line.desk)
+    with_log(line, "b")
     assert sealing.seal(line, 0, audit).commands == 2
     assert copies.log_of(line.desk), "the desk stays as it was"
 
 
-@pytest.mark.parametrize("number", [0, 3])
-def test_a_copy_that_the_audit_finds_otherwise_is_not_kept(folder: Path, number: int) -> None:
+def refused(_: Path) -> int:
+    raise plant.Fault("the audit says TableDiffers")
+
+
+@pytest.mark.parametrize(
+    "judge, why",
+    [(lambda _: 0, "has 2 com"), (lambda _: 3, "has 2 com"), (refused, "TableDiffers")],
+)
+def test_a_copy_that_the_audit_refuses_or_finds_otherwise_is_not_kept(
+    folder: Path, judge: sealing.Audit, why: str
+) -> None:
     line = line_of(folder / "L1", "a", "b")
-    with pytest.raises(sealing.NotSealed, match="has 2 commands"):
-        sealing.seal(line, 0, lambda file: number)
-    assert not [*line.sealed.iterdir()] and not line.work.exists()
-
-
-def test_a_copy_that_the_audit_refuses_is_not_kept(folder: Path) -> None:
-    line = line_of(folder / "L1", "a", "b")
-
-    def refused(file: Path) -> int:
-        raise plant.Fault("the audit says TableDiffers")
-
-    with pytest.raises(sealing.NotSealed, match="TableDiffers"):
-        sealing.seal(line, 0, refused)
+    with pytest.raises(sealing.NotSealed, match=why):
+        sealing.seal(line, 0, judge)
     assert not [*line.sealed.iterdir()] and not line.work.exists()
 
 
 def test_a_seal_that_is_killed_at_any_call_leaves_a_whole_file_or_none(folder: Path) -> None:
-    calls: list[str] = []
-    number = 0
-    while len(calls) == number:
-        number += 1
-        line = line_of(folder / f"L{number}", "a")
-        first = seal(line)
+    def begin(line: LineFolder) -> Callable[[], object]:
+        seal(line)
         files.accept(line.desk, ["b"])
-        with killed_at(number, CALLS) as calls:
-            sealing.seal(line, 0, audit)
+        return lambda: sealing.seal(line, 0, audit)
+
+    for line in killed_at_each_call(folder, begin):
         found = lineage.of(line)
-        assert not found.faults and [file.commands for file in found.files] in ([1], [1, 2], [2, 1])
-        assert first.path in [file.path for file in found.files]
+        assert not found.faults
+        assert sorted(file.commands for file in found.files) in ([1], [1, 2])
         assert seal(line).commands == 2 and not line.work.exists()
-    assert number > 5 and {"replace", "fsync"} <= set(calls)
 
 
 def test_two_tools_at_once_and_a_folder_that_cant_be_written(folder: Path) -> None:
@@ -136,18 +121,21 @@ def test_a_host_that_went_on_by_itself_is_a_fork_and_nothing_is_superfluous(fold
     assert not lineage.superfluous(found.files)
 
 
-def test_two_desks_with_the_same_first_message_are_no_one_line(folder: Path) -> None:
-    line, other = line_of(folder / "L1", "setup", "a"), line_of(folder / "L2", "setup", "b")
+@pytest.mark.parametrize(
+    "first, second, said_of",
+    [
+        (["setup", "a"], ["setup", "b"], "two histories .* command 2"),
+        (["a"], ["b"], "two histories .* of two desks"),
+    ],
+    ids=["the same first message", "no common command"],
+)
+def test_files_of_two_desks_are_no_one_line(
+    folder: Path, first: list[str], second: list[str], said_of: str
+) -> None:
+    line, other = line_of(folder / "L1", *first), line_of(folder / "L2", *second)
     seal(line)
     shutil.copy(seal(other).path, line.sealed)
-    assert "two histories" in said(line)
-
-
-def test_files_without_a_common_command_are_of_two_desks(folder: Path) -> None:
-    line, other = line_of(folder / "L1", "a"), line_of(folder / "L2", "b")
-    seal(line)
-    shutil.copy(seal(other).path, line.sealed)
-    assert "of two desks" in said(line)
+    assert re.search(said_of, said(line))
 
 
 def test_a_desk_that_was_set_back_is_told_at_its_next_seal(folder: Path) -> None:

@@ -1,12 +1,18 @@
 """Folders of lines whose desks are tables alone, without the program."""
 from __future__ import annotations
 
+import contextlib
+import itertools
+import os
 import pathlib
+import shutil
+import sqlite3
 import sys
+from collections.abc import Callable, Iterator
 from unittest import mock
 
 from lab import files
-from lab.killed import Killed
+from lab.killed import Killed, killed_at
 from tracedesk_ops import copies, plant, rollover, sealed, sealing
 from tracedesk_ops.line import LineFolder
 
@@ -39,6 +45,37 @@ def seal(line: LineFolder, *uids: str) -> sealed.Sealed:
     """Seals the desk once it has accepted these too."""
     files.accept(line.desk, uids)
     return sealing.seal(line, 0, audit)
+
+
+def with_log(line: LineFolder, uid: str) -> None:
+    """The desk accepts this, and has it in its log alone, as after SIGTERM."""
+    between = [(Path(f"{line.desk}{tail}"), line.path / f"copy{tail}") for tail in ("", "-wal")]
+    with contextlib.closing(sqlite3.connect(line.desk)) as database:
+        database.execute("PRAGMA journal_mode = WAL")
+        database.execute(ACCEPT, [uid, f"PartDefined\t{uid}"])
+        database.commit()
+        for path, copy in between:
+            shutil.copyfile(path, copy)
+    for path, copy in between:
+        os.replace(copy, path)
+    assert copies.log_of(line.desk)
+
+
+def killed_at_each_call(
+    folder: Path, begin: Callable[[LineFolder], Callable[[], object]]
+) -> Iterator[LineFolder]:
+    """Lines of which the call that `begin` returns was killed at its first change of a file, at
+    the second, and so on; of the last one it wasn't.
+    """
+    for number in itertools.count(1):
+        line = line_of(folder / f"L{number}", "a")
+        call = begin(line)
+        with killed_at(number, CALLS) as calls:
+            call()
+        yield line
+        if len(calls) < number:
+            assert number > 5
+            return
 
 
 # --- Roll-overs
