@@ -15,10 +15,6 @@ from lab.watched import COME_AGAIN, ODD, Metrics, Watched, expect, read, watched
 
 pytestmark = [pytest.mark.needs("nginx", "openssl"), pytest.mark.xdist_group("watch")]
 
-SAMPLE = """# HELP tracedesk_up whether the desk answers
-# TYPE tracedesk_up gauge
-tracedesk_up 1
-"""
 AT, SECOND = "2026-03-02T07:05:09Z", 1772435109
 
 
@@ -43,23 +39,6 @@ def test_promtool_takes_the_file(its: Watched) -> None:
     its.look()
     checked = ["promtool", "check", "metrics"]
     subprocess.run(checked, stdin=its.file.open(), check=True, capture_output=True)
-
-
-@pytest.mark.parametrize(
-    "text",
-    [
-        SAMPLE[:-1],
-        SAMPLE.replace("up 1", "up one"),
-        SAMPLE + "tracedesk_up 1\n",
-        SAMPLE.replace("# TYPE tracedesk_up gauge\n", ""),
-        SAMPLE + "tracedesk_other 1\n",
-    ],
-    ids=["no end", "no number", "twice", "no type", "not told"],
-)
-def test_the_reader_of_this_test_refuses(text: str) -> None:
-    assert read(SAMPLE) == {"up": 1.0}
-    with pytest.raises(ValueError):
-        read(text)
 
 
 # --- The numbers

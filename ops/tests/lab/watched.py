@@ -15,10 +15,7 @@ from lab.waits import PATIENCE
 from tracedesk_ops.line import LineFolder
 
 ODD = 'M "3" \\'  # a machine's name
-NAME, NUMBER = r"[a-zA-Z_:][a-zA-Z0-9_:]*", r"[+-]?(?:\d+(?:\.\d*)?(?:[eE][+-]?\d+)?|Inf|NaN)"
-LABEL = r'[a-zA-Z_][a-zA-Z0-9_]*="(?:[^"\\\n]|\\["\\n])*"'
-HEAD = re.compile(rf"# (HELP|TYPE) ({NAME}) (\S.*)")
-SAMPLE = re.compile(rf"({NAME})(?:\{{({LABEL}(?:,{LABEL})*)\}})? ({NUMBER})")
+SAMPLE = re.compile(r"tracedesk_(\w+)(?:\{(.*)\})? (\S+)")
 VALUE = re.compile(r'"((?:[^"\\\n]|\\["\\n])*)"')
 COME_AGAIN = (503, '{"Answer":"Proxy","Fault":"ComeAgain"}')  # of nginx, for a desk that is away
 
@@ -27,54 +24,19 @@ Metrics = dict[
 ]  # by names as `least_slot_pieces{M1}`: a sample, and the values of its labels
 
 
-class Reader:
-    """Reads a text file of Prometheus; a ValueError says where it breaks the format."""
-
-    def __init__(self) -> None:
-        self.found: Metrics = {}
-        self.about: set[str] = set()
-        self.kinds: dict[str, str] = {}
-        self.last = ""
-        self.closed: set[str] = set()
-
-    def read(self, text: str) -> Metrics:
-        if not text.endswith("\n"):
-            raise ValueError("the last line has no end")
-        for line in text[:-1].split("\n"):
-            if head := HEAD.fullmatch(line):
-                self.see_head(line, *head.groups())
-            else:
-                self.see_sample(line)
-        return self.found
-
-    def see_head(self, line: str, word: str, name: str, rest: str) -> None:
-        is_twice = name in (self.about if word == "HELP" else self.kinds)
-        is_odd = word == "TYPE" and rest not in ("gauge", "counter")
-        if is_twice or is_odd or name in self.closed:
-            raise ValueError(f"it stands where it may not: {line}")
-        self.about.add(name)
-        if word == "TYPE":
-            self.kinds[name] = rest
-
-    def see_sample(self, line: str) -> None:
-        sample = SAMPLE.fullmatch(line)
-        if not sample or sample[1] not in self.about or sample[1] not in self.kinds:
-            raise ValueError(f"no sample of a metric that is told: {line!r}")
-        name, labels = sample[1], sample[2]
-        if name != self.last:
-            self.closed.add(self.last)
-            self.last = name
-        short = name.removeprefix("tracedesk_")
-        if labels:
-            short += "{" + ",".join(VALUE.findall(labels)) + "}"
-        is_counter = self.kinds[name] == "counter"
-        if name in self.closed or short in self.found or is_counter != name.endswith("_total"):
-            raise ValueError(f"twice, or apart, or of another type: {line}")
-        self.found[short] = float(sample[3])
-
-
 def read(text: str) -> Metrics:
-    return Reader().read(text)
+    """The samples of a whole file; promtool judges its form."""
+    found: Metrics = {}
+    for line in text.splitlines():
+        if not line.startswith("#"):
+            sample = SAMPLE.fullmatch(line)
+            assert sample, f"no sample: {line!r}"
+            labels = ",".join(VALUE.findall(sample[2] or ""))
+            name = f"{sample[1]}{{{labels}}}" if labels else sample[1]
+            assert name not in found, f"twice: {line}"
+            found[name] = float(sample[3])
+    assert text.endswith("\n") and "watch_timestamp_seconds" in found, "it was cut"
+    return found
 
 
 def expect(found: Metrics, **wanted: Any) -> None:
