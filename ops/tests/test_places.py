@@ -74,33 +74,30 @@ def test_a_line_that_this_user_may_not_look_into_stops_no_other(
 
 
 @pytest.mark.parametrize(
-    "words, wrong",
+    "text, wrong",
     [
-        ({"line": "L1", "inbx": "/srv/x"}, "inbx is none of"),
-        ({"line": "L1", "db": "x/desk"}, "db is none of .* no whole path"),
-        ({"line": "L1", "inbox": "/srv/x"}, "inbox is none of"),
-        ({"line": "L1", "port": "http"}, "port is none of"),
-        ({"db": "/srv/desk"}, "names no line"),
+        (b"line = L2\ninbx = /srv/x\n", "inbx is none of"),
+        (b"line = L2\ninbox = /srv/x\n", "inbox is none of"),
+        (b"line = L2\nport = http\n", "port is none of"),
+        (b"line = L2\ndb = x/desk\n", "db is none of .* no whole path"),
+        (b"line = L2\ndb = /desk\n", "in a folder of the line's own"),
+        (b"line = L2\ndb = /srv/l2\n", "in a folder of the line's own"),
+        (b"", "names no line"),
+        (b"port = 8082\n", "names no line"),
+        (b"line = L\xff\n", "can't be read"),
+        (b"line = L2\nline = L3\n", "is there twice"),
+        (b"line = L1\ndb = /srv/desk\n", "have line = L1"),
+        (b"line = L2\n", "have db = /var/lib/tracedesk/desk"),
+        # else what is told one of them would be told the other
+        (b"line = L2\ndb = /srv/desk\nport = 8080\n", "have port = 8080"),
     ],
 )
-def test_a_wrong_word_is_named(set_up: SetUp, words: "dict[str, str]", wrong: str) -> None:
-    set_up("L1", **words)
+def test_a_wrong_file_is_named_and_what_is_wrong(
+    set_up: SetUp, tmp_path: pathlib.Path, text: bytes, wrong: str
+) -> None:
+    set_up("L1", line="L1")
+    (tmp_path / "L2.conf").write_bytes(text)
     with pytest.raises(places.NotSetUp, match=wrong):
-        places.lines()
-
-
-def test_two_lines_have_two_desks(set_up: SetUp) -> None:
-    set_up("L1", line="L1")
-    set_up("L2", line="L2")
-    with pytest.raises(places.NotSetUp, match="have db = /var/lib/tracedesk/desk"):
-        places.lines()
-
-
-def test_two_lines_have_two_ports(set_up: SetUp) -> None:
-    """Else what is told one of them would be told the other."""
-    set_up("L1", line="L1")
-    set_up("L2", line="L2", db="/srv/desk", port=8080)
-    with pytest.raises(places.NotSetUp, match="have port = 8080"):
         places.lines()
 
 

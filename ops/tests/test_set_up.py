@@ -69,28 +69,10 @@ def test_recall_asks_all_lines(one: Line, two: Line) -> None:
     done.expect(0, "\nL1,running desk", "\nL2,running desk", "the lines are L1, L2: ")
 
 
-@pytest.mark.parametrize(
-    "text, why",
-    [
-        (b"line = L1\nports = 8080\n", "ports"),
-        (b"lin = L1\n", "lin"),
-        (b"", "names no line"),
-        (b"line = L\xff\n", "can't be read"),
-        (b"port = 8080\n", "names no line"),
-        (b"line = L2\ndb = x/desk\n", "no whole path"),
-        (b"line = L2\ndb = /desk\n", "in a folder of the line's own"),
-        (b"line = L2\ndb = /none/l2\n", "in a folder of the line's own"),
-        (b"line = L2\nline = L3\n", "is there twice"),
-        (b"line = L1\ndb = /none/other/desk\n", "have line = L1"),
-        (b"line = L2\ndb = /none/l1/desk\n", "have db = "),
-    ],
-)
-def test_file_that_is_no_set_up(etc: pathlib.Path, text: bytes, why: str) -> None:
-    """Each tool names it, and what is wrong with it."""
-    (etc / "L1.conf").write_text("line = L1\ndb = /none/l1/desk\n")
-    (etc / "L2.conf").write_bytes(text)
-    for words in (["ops", "seal", "L1"], ["recall", "lot", "L1"], ["watch", "--to", "-"]):
-        run_tool(*words).expect(2, str(etc), why)
+@pytest.mark.parametrize("words", [["ops", "seal", "L1"], ["recall", "lot", "L1"], ["watch"]])
+def test_each_tool_names_a_wrong_file(etc: pathlib.Path, words: list[str]) -> None:
+    (etc / "L2.conf").write_text("line = L2\nports = 8080\n")
+    run_tool(*words).expect(2, f"{etc}/L2.conf: ports is none of")
 
 
 def test_a_recall_notices_swapped_ports(one: Line, two: Line, etc: pathlib.Path) -> None:
