@@ -55,23 +55,6 @@ def uids(file: Path) -> list[str]:
         return [uid for (uid,) in database.execute("SELECT uid FROM accepted ORDER BY number")]
 
 
-def test_a_restore_does_what_was_said_and_keeps_the_desk(folder: Path) -> None:
-    line = line_of(folder / "L1", "a")
-    older = seal(line)
-    seal(line, "b")
-    files.accept(line.desk, ["c"])
-    before = {path: path.read_bytes() for path in line.path.rglob("*") if path.is_file()}
-    its = change.plan(line, older)
-    assert before == {path: path.read_bytes() for path in line.path.rglob("*") if path.is_file()}
-    assert its.commands == 3 and [lacked.commands for lacked in its.lacked] == [2]
-    change.restore(line, its, audit)
-    assert uids(line.desk) == ["a"] and uids(line.lost / its.taken_off) == ["a", "b", "c"]
-    assert line.desk.stat().st_mode & 0o777 == 0o600
-    seal(line, "d")
-    found = lineage.of(line)
-    assert not found.faults and [lacked.commands for lacked in found.lacked] == [2]
-
-
 def test_the_log_of_the_desk_is_kept_and_never_next_to_another_one(folder: Path) -> None:
     line = line_of(folder / "L1", "a")
     older = seal(line)
@@ -95,32 +78,6 @@ def test_a_desk_that_cant_be_read_is_kept_with_its_log_and_is_a_fault(folder: Pa
     assert uids(line.desk) == ["a"] and not copies.logs_of(line.desk)
     seal(line, "b")
     assert any(str(lost) in fault for fault in lineage.of(line).faults)
-
-
-def test_a_line_without_a_desk_gets_one_and_one_that_lacks_nothing_leaves_nothing(
-    folder: Path,
-) -> None:
-    line = line_of(folder / "L1", "a")
-    newest = seal(line, "b")
-    restored(line, newest)
-    assert not [*line.lost.iterdir()]
-    line.desk.unlink()
-    its = restored(line, change.chosen(line, ""))
-    assert not its.taken_off and uids(line.desk) == ["a", "b"]
-
-
-def test_what_was_taken_off_can_be_restored_itself(folder: Path) -> None:
-    line = line_of(folder / "L1", "a")
-    older = seal(line)
-    files.accept(line.desk, ["b"])
-    first = restored(line, older)
-    seal(line, "c")
-    second = restored(line, change.chosen(line, first.taken_off))
-    assert uids(line.desk) == ["a", "b"]
-    assert [path.name for path in line.lost.iterdir()] == [second.taken_off]
-    found = lineage.of(line)
-    assert found.chain[-1].path.name == first.taken_off and not found.faults
-    assert [lacked.commands for lacked in found.lacked] == [1]
 
 
 def test_behind_a_restored_file_are_its_archives(folder: Path) -> None:

@@ -156,9 +156,10 @@ def test_a_restore_is_as_its_page_predicts(
     lost = sorted(called.line.lost.iterdir())
     words = [it.stem[:6] for it in lost if "lost" in call]
     capsys.readouterr()
+    before = {path: path.read_bytes() for path in called.line.path.rglob("*") if path.is_file()}
     assert called.ends("restore", *words, "--dry-run") == int(status)
     said = capsys.readouterr().out
-    assert sorted(called.line.lost.iterdir()) == lost
+    assert before == {it: it.read_bytes() for it in called.line.path.rglob("*") if it.is_file()}
     those = called.line.sealed if file == "the newest sealed file" else called.line.lost
     assert [f"{it} becomes" in said for it in those.iterdir()] == [True]
     assert ("the desk goes to lost/" in said) == (is_kept == "yes")
@@ -166,6 +167,7 @@ def test_a_restore_is_as_its_page_predicts(
     assert (f"{again} of S have to be sent again" in said) == (again[0].isdigit())
     assert called.ends("restore", *words) == int(status) and capsys.readouterr().out == said
     assert uids(called.line.desk) == ["a", "b", *(["c", "d"] if words else [])]
+    assert called.line.desk.stat().st_mode & 0o777 == 0o600
     assert bool([*called.line.lost.glob("*.desk")]) == (is_kept == "yes")
     assert called.ends("seal") == int(status)
 

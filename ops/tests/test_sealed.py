@@ -14,7 +14,7 @@ import pytest
 from lab import files
 from lab.folders import audit, killed_at_each_call, line_of, rolled_over, seal, with_log
 from tracedesk_ops import change, copies, lineage, plant, sealed, sealing
-from tracedesk_ops.line import Busy, LineFolder
+from tracedesk_ops.line import LineFolder
 
 Path = pathlib.Path
 
@@ -83,14 +83,6 @@ def test_a_seal_that_is_killed_at_any_call_leaves_a_whole_file_or_none(folder: P
         assert seal(line).commands == 2 and not line.work.exists()
 
 
-def test_two_tools_at_once_and_a_folder_that_cant_be_written(folder: Path) -> None:
-    line = line_of(folder / "L1", "a")
-    with line.changed():
-        with pytest.raises(Busy):
-            sealing.seal(line, 0, audit)
-    assert seal(line).commands == 1
-
-
 # --- Order
 
 
@@ -138,45 +130,6 @@ def test_files_of_two_desks_are_no_one_line(
     assert re.search(said_of, said(line))
 
 
-def test_a_desk_that_was_set_back_is_told_at_its_next_seal(folder: Path) -> None:
-    line = line_of(folder / "L1", "a")
-    older = seal(line)
-    newer = seal(line, "b")
-    line.desk.unlink()
-    shutil.copyfile(older.path, line.desk)
-    found = lineage.of(line)
-    assert found.chain == [newer] and not found.faults
-    (fault,) = sealing.faults_since(seal(line), lineage.of(line))
-    assert "set back" in fault and str(newer.path) in fault
-    seal(line, "c")
-    assert "two histories" in said(line)
-
-
-def test_an_archive_that_is_missing_is_named_also_behind_what_was_taken_off(folder: Path) -> None:
-    line = line_of(folder / "L1", "a")
-    first = seal(line)
-    files.accept(line.desk, ["b"])
-    rolled_over(line)
-    archive = next(file for file in lineage.of(line).files if file.commands == 2)
-    seal(line, "c")
-    assert [file.commands for file in lineage.of(line).chain] == [2, 2]
-    archive.path.unlink()
-    assert archive.path.name in said(line)
-    restored(line, first)
-    assert archive.path.name in said(line)
-
-
-def test_a_roll_over_and_its_own_fork(folder: Path) -> None:
-    """The old desk goes on, as on a machine that wasn't told."""
-    line, rig = line_of(folder / "L1", "a"), line_of(folder / "rig")
-    shutil.copyfile(line.desk, rig.desk)
-    rolled_over(line)
-    seal(line, "b")
-    assert [file.commands for file in lineage.of(line).chain] == [1, 2]
-    shutil.copy(seal(rig, "b").path, line.sealed)
-    assert "two histories" in said(line) and "command 2" in said(line)
-
-
 # --- What is lacking
 
 
@@ -210,17 +163,6 @@ def test_work_of_any_source_is_lacking_and_the_same_name_with_another_text_too(
     seal(line, "y")
     lacked = lineage.of(line).lacked
     assert lacked == [lineage.Lacked(lost, "S", 1, 3), lineage.Lacked(lost, "tracedesk", 1, 2)]
-
-
-def test_what_cant_be_read_in_lost_is_a_fault(folder: Path) -> None:
-    line = line_of(folder / "L1", "a")
-    older = seal(line)
-    files.accept(line.desk, ["b"])
-    lost = restored(line, older)
-    seal(line, "c")
-    lost.chmod(0o600)
-    lost.write_bytes(lost.read_bytes()[:-1])
-    assert str(lost) in said(line)
 
 
 # --- Damage
