@@ -6,7 +6,7 @@ import time
 from typing import Iterator
 
 import pytest
-from lab.tools import SENDER, Ended, Word, run_tool
+from lab.tools import Ended, Word, run_tool
 from lab.watched import Watched, watched
 
 pytestmark = [pytest.mark.needs("nginx", "openssl"), pytest.mark.xdist_group("clock")]
@@ -83,8 +83,7 @@ def test_an_answer_that_cannot_be_kept_is_named(its: Watched) -> None:
     ("words", "status", "said"),
     [
         (["--help"], 0, "3 nothing was sent"),
-        (["--sender", "no-such"], 2, "--sender"),
-        (["--patience", 0, "--sender", SENDER], 2, "takes some time"),
+        (["--patience", 0], 2, "takes some time"),
     ],
 )
 def test_words_of_the_clock(words: list[Word], status: int, said: str) -> None:

@@ -6,7 +6,7 @@ import pathlib
 import pytest
 
 from lab.line import Line, NewLine
-from lab.tools import SENDER, Word, run_tool
+from lab.tools import Word, run_tool
 
 
 def set_up(folder: pathlib.Path, line: Line, **more: object) -> None:
@@ -58,7 +58,7 @@ def test_tool_of_one_of_two_lines(one: Line, two: Line) -> None:
 def test_watch_and_clock_of_one_of_two_lines(one: Line, two: Line) -> None:
     run_tool("watch", "--to", "-").expect(2, "say by --line")
     run_tool("watch", "--line", "L2", "--to", "-").expect(0, "\ntracedesk_up 1\n")
-    words: list[Word] = ["--synced", "echo yes", "--sender", SENDER, "--answer", "-"]
+    words: list[Word] = ["--synced", "echo yes", "--answer", "-"]
     words += ["--drained", two.drained]
     run_tool("clock", *words).expect(2, "say by --line")
     run_tool("clock", "--line", "L2", *words).expect(0, '"Answer":"Accepted"')

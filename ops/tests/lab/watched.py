@@ -10,7 +10,7 @@ import time
 from typing import Any, Iterator
 
 from lab.site import Site
-from lab.tools import SENDER, Ended, Word, run, tool
+from lab.tools import Ended, Word, run, tool
 from lab.waits import PATIENCE
 from tracedesk_ops.line import LineFolder
 
@@ -125,7 +125,6 @@ class Watched:
         pairs: dict[str, Word] = {
             "url": f"http://127.0.0.1:{self.site.desk_port}",
             "synced": synced,
-            "sender": SENDER,
             "answer": self.answer,
             "drained": self.site.drained,
             "patience": PATIENCE,

@@ -1,8 +1,8 @@
 """Tells a desk the time, by one ClockSet: for a line that is idle, while no message moves its
 minute.
 
-usage: tracedesk-clock [--url URL] [--synced COMMAND] [--sender FILE] [--answer FILE] [--drained
-FILE] [--patience SECONDS]
+usage: tracedesk-clock [--url URL] [--synced COMMAND] [--answer FILE] [--drained FILE]
+                       [--patience SECONDS]
 
 examples:
   tracedesk-clock                    tracedesk-clock.timer has it done each five minutes, once that
@@ -14,9 +14,8 @@ examples:
 
 Nothing is sent unless the command of --synced prints yes: the desk takes the time from the message,
 and never goes back. The message is of this minute, and so is its UniqueID: sent twice within a
-minute it acts once. tracedesk-send sends it. A desk that isn't there is no loss, since the next
-message has the time too. During a copy or a roll-over, when senders must come again, nothing is
-sent.
+minute it acts once. A desk that isn't there is no loss, since the next message has the time too.
+During a copy or a roll-over, when senders must come again, nothing is sent.
 
 Exit status: 0 accepted, or senders must come again; 1 not accepted, or there was no answer; 2 bad
 command line; 3 nothing was sent, since this machine's clock is not in sync; 9 an unexpected
@@ -26,11 +25,11 @@ from __future__ import annotations
 
 import argparse
 import pathlib
-import shutil
 import subprocess
 import sys
 import time
 
+from tracedesk import Desk, GivenUp, NotTaken, answers
 from tracedesk_ops import catalogue, files, options, places, plant, reader_of, stored
 
 URL = f"http://127.0.0.1:{places.PORT}"
@@ -69,30 +68,19 @@ def message() -> str:
     return stored.line(f"clock-{catalogue.spelled(minute)[:-4]}Z", "clock", minute, "ClockSet", {})
 
 
-def sent(asked: argparse.Namespace, line: str) -> str | None:
-    """The desk's answer to a message; none where tracedesk-send says why there is none."""
-    with files.Room() as room:
-        messages, answers = pathlib.Path(room, "messages"), pathlib.Path(room, "answers")
-        messages.write_text(line + "\n", encoding="utf-8")
-        words = [
-            asked.sender,
-            "--url",
-            asked.url,
-            "--patience",
-            str(asked.patience),
-            "--timeout",
-            str(asked.patience),
-            "--stop-at-refusal",
-            messages,
-            answers,
-        ]
-        done = subprocess.run(words, stdin=subprocess.DEVNULL, capture_output=True, **plant.TEXT)
-        if done.returncode:
-            plant.tell(
-                f"not accepted: {' '.join(done.stderr.split()) or f'status {done.returncode}'}"
-            )
-            return None
-        return answers.read_text(encoding="utf-8")
+def sent(asked: argparse.Namespace, line: str) -> bytes | None:
+    """The desk's answer to a message; if it isn't accepted, why is told."""
+    patience = asked.patience
+    try:
+        with Desk(asked.url, patience=patience, timeout=patience, tell=plant.tell) as desk:
+            answer = desk.send(line.encode())
+    except (GivenUp, NotTaken, OSError, ValueError) as fault:
+        plant.tell(f"not accepted: {fault}")
+        return None
+    if isinstance(answer, answers.Accepted):
+        return answer.text
+    plant.tell(f"not accepted: {answers.why(answer)}")
+    return None
 
 
 def words() -> argparse.Namespace:
@@ -103,9 +91,6 @@ def words() -> argparse.Namespace:
         default=SYNCED,
         metavar="COMMAND",
         help=f"prints yes where this machine's clock is in sync ({SYNCED})",
-    )
-    reader.add_argument(
-        "--sender", default="tracedesk-send", metavar="FILE", help="what sends (tracedesk-send)"
     )
     reader.add_argument(
         "--answer",
@@ -125,9 +110,6 @@ def words() -> argparse.Namespace:
     )
     options.set_up(reader)
     asked = reader.parse_args()
-    asked.sender = shutil.which(asked.sender)
-    if asked.sender is None:
-        reader.error("there is no tracedesk-send: name it by --sender")
     if asked.patience <= 0:
         reader.error("--patience: an answer takes some time")
     return asked
@@ -143,11 +125,12 @@ def main() -> int:
     answer = sent(asked, message())
     if answer is None:
         return 1
+    text = f"{answer.decode()}\n"
     if asked.answer == "-":
-        sys.stdout.write(answer)
+        sys.stdout.write(text)
         return 0
     try:
-        files.put(pathlib.Path(asked.answer).absolute(), answer, 0o644)
+        files.put(pathlib.Path(asked.answer).absolute(), text, 0o644)
         return 0
     except OSError as fault:
         plant.tell(
