@@ -22,7 +22,6 @@ from tracedesk_ops.line import LineFolder
 
 RUNNING = "running desk"  # in the place of an archive's name
 EPOCH = datetime.datetime(1970, 1, 1)
-LOGS = copies.LOGS
 csv.field_size_limit((1 << 31) - 1)  # a cell is as long as what somebody sent
 
 

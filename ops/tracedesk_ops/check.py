@@ -37,6 +37,13 @@ def hindrances(desk: Path, audit: sealing.Audit) -> list[str]:
     return [finding.text() for finding in found] or [*unlawful(desk, audit)]
 
 
+def want_one_name(desk: Path) -> None:
+    """Stops before anything is stopped if no run would open the desk again."""
+    names = (outside.Finding(outside.OTHER_NAME, it) for it in outside.names(str(desk)))
+    if found := outside.no_file(str(desk)) or next(names, None):
+        raise plant.Fault(found.text())
+
+
 def unlawful(desk: Path, audit: sealing.Audit) -> Iterator[str]:
     """What the audit finds in a copy, which is made where temporary files are."""
     with files.Room() as room:

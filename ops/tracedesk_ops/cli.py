@@ -156,7 +156,7 @@ def rolled_over(line: LineFolder, asked: argparse.Namespace, service: Service) -
     def new(work: Path, is_low: bool) -> rollover.NewDesk:
         return successor.Successor(work, wanted, asked.program, asked.chain, is_low)
 
-    plant.want_one_name(line.desk)
+    check.want_one_name(line.desk)
     return rollover.roll_over(line, service, made, new, wanted.has_options())
 
 
@@ -213,6 +213,7 @@ def set_up_of(line: LineFolder) -> dict[str, str | int]:
         "stop": f"systemctl stop {unit}",
         "port": places.PORT if is_own else 0,
     }
+    # it may have failed too often, on a desk that was not to be had
     words["start"] = f"systemctl reset-failed {unit}; systemctl start {unit}"
     for its in places.files():
         if places.of_words(its).db.parent.resolve() == line.path:

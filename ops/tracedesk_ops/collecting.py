@@ -29,11 +29,9 @@ def collect(archive: pathlib.Path) -> tuple[list[untraced.Record], int, list[str
         new = [it for name, it in waiting.records.items() if name not in known]
         if new:
             append(path, records, new)
-            plant.reached("appended")
         if new or len(records) != untraced.collected_in(inbox)[0]:
             records += new
             note(inbox, records)
-            plant.reached("noted")
         for file in waiting.files:
             file.unlink(missing_ok=True)
         return records, len(new), [*waiting.faults, *inboxes.limit(inbox)]

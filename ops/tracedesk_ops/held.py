@@ -32,7 +32,7 @@ import sys
 import time
 from collections.abc import Callable, Iterator, Sequence
 
-from tracedesk_ops import catalogue, files, model, plant, stored
+from tracedesk_ops import copies, files, heads, plant, sealed
 
 LONGEST = 5.0  # seconds that the connection may be held by a tool that hangs
 SLOW = 2.5  # seconds after which a copy is given up
@@ -96,7 +96,7 @@ def lawful(
     for left in reversed(range(TRIES)):
         try:
             uid = marker()
-            copied = copy(desk, port, message(uid), to)
+            copied = copy(desk, port, heads.message(uid).encode(), to)
             if (commands := audit(to)) != copied.number or last_of(to, commands) != uid:
                 raise NoCopy(
                     f"{to} has {commands} commands, and not just those until {uid}, the"
@@ -114,19 +114,14 @@ def lawful(
 
 
 def new_marker() -> str:
-    """The UniqueID of a marker."""
+    """The UniqueID of a marker, which is a head: it never moves the desk's minute."""
     return f"copy-{secrets.token_hex(16)}"
-
-
-def message(uid: str) -> bytes:
-    """A marker: it never moves the desk's minute."""
-    return stored.line(uid, model.SOURCE, 0, "ClockSet", {}).encode()
 
 
 def last_of(file: pathlib.Path, number: int) -> str:
     """The UniqueID of a command of an audited file."""
-    with catalogue.opened(file) as database:
-        return str(database.execute(UID, [number]).fetchone()[0])
+    with sealed.opened(file) as database:
+        return str(copies.rows(database, UID, number)[0][0])
 
 
 def remove(copied: pathlib.Path) -> None:

@@ -12,9 +12,6 @@ from tracedesk_ops import catalogue, model, places
 from tracedesk_ops.plant import Fault
 
 SET_UP = places.FOLDER
-STOP = "systemctl stop tracedesk"
-# it may have failed too often, on a desk that was not to be had
-START = "systemctl reset-failed tracedesk; systemctl start tracedesk"
 PROXY_PORT = 8081  # packaging/nginx.conf
 DRAINED = pathlib.Path("/run/tracedesk-drained")  # packaging/nginx.conf looks for it
 
@@ -90,12 +87,9 @@ def set_up(reader: argparse.ArgumentParser, **names: str) -> None:
 
 def offer_service(reader: argparse.ArgumentParser) -> None:
     """Adds the words by which a tool stops and starts the desk's service."""
-    reader.add_argument(
-        "--stop", default=STOP, metavar="COMMAND", help=f"stops the service ({STOP})"
-    )
-    reader.add_argument(
-        "--start", default=START, metavar="COMMAND", help=f"starts the service ({START})"
-    )
+    for word in ("stop", "start"):
+        about = f"{word}s the service (by systemctl, the unit of the line)"
+        reader.add_argument(f"--{word}", metavar="COMMAND", help=about)
     reader.add_argument(
         "--drained",
         type=pathlib.Path,

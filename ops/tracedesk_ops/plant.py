@@ -135,18 +135,6 @@ def raised(fault: Fault, *_: object) -> None:
     raise fault
 
 
-def want_one_name(db: pathlib.Path) -> None:
-    """Stops if the desk is gone, or has a second name: no run opens such a file."""
-    if not db.exists():
-        raise Fault(f"{db} is gone: mount its disk, or restore a sealed file")
-    if (names := db.stat().st_nlink) > 1:
-        raise Fault(
-            f"{db} has {names} names, as a snapshot of hard links gives it, and no run opens such a"
-            f" file: remove the others, which find {db.parent.parent} -xdev -samefile {db} prints,"
-            " before the service is restarted"
-        )
-
-
 @contextlib.contextmanager
 def as_owner(db: pathlib.Path) -> Iterator[None]:
     """Works as the owner of the desk's folder, where the caller is root: so a link in it leads to
@@ -266,7 +254,7 @@ def without_log(file: pathlib.Path) -> None:
     """Takes the empty log away that a run left beside a file."""
     if log := copies.log_of(file):
         raise Fault(f"{log} holds something after a run that ended well")
-    for tail in catalogue.LOGS:
+    for tail in copies.LOGS:
         pathlib.Path(f"{file}{tail}").unlink(missing_ok=True)
 
 

@@ -21,10 +21,10 @@ from collections.abc import Iterator
 from typing import NamedTuple
 
 from tracedesk_ops import copies, files
+from tracedesk_ops.model import DIGITS
 
 Path = pathlib.Path
 
-DIGITS = 24  # of a file's SHA-256: in its name, and in the desk that was begun from it
 SUFFIX = ".desk"
 BEGUN = re.compile(rf"begin-([0-9a-f]{{{DIGITS}}})-1")
 

@@ -7,7 +7,7 @@ from typing import Any, Callable, Iterable, Mapping, Optional
 
 from lab import messages
 from lab.desk import Desk, rows_of
-from lab.tools import KILL_AFTER, Ended, Word, run, run_tool, tool
+from lab.tools import Ended, Word, run, run_tool, tool
 from lab.waits import PATIENCE
 from tracedesk_ops import around, catalogue, lineage, sealed
 from tracedesk_ops.line import LineFolder
@@ -53,7 +53,7 @@ class Line(Desk):
         return [tool("ops"), "rollover", self.folder, *self.service(program), *more]
 
     def rollover(self, *more: Word, program: Optional[pathlib.Path] = None, **how: Any) -> Ended:
-        """Calls tracedesk-ops rollover; `how` are the last three arguments of `call`."""
+        """Calls tracedesk-ops rollover; `how` are the last arguments of `call`."""
         return self.call(self.rollover_words(*more, program=program), program, **how)
 
     def seal(self, **how: Any) -> Ended:
@@ -68,12 +68,11 @@ class Line(Desk):
         self,
         words: list[Word],
         program: Optional[pathlib.Path] = None,
-        kill_after: str = "",
         limit: int = 0,
         env: Optional[Mapping[str, str]] = None,
     ) -> Ended:
-        """Calls a tool, which may be killed after a step, or make no file larger than a limit."""
-        own = {"TRACEDESK_QUIET": self.quiet, KILL_AFTER: kill_after}
+        """Calls a tool, which may make no file larger than a limit."""
+        own = {"TRACEDESK_QUIET": self.quiet}
         if program:  # of `wrapped`: tracedesk-chain lies next to it
             own["CHAIN"] = str(program.with_name("tracedesk-chain"))
         return run(words, env={**own, **(env or {})}, limit=limit)
@@ -90,10 +89,6 @@ class Line(Desk):
     def archives(self) -> list[catalogue.Archive]:
         """The archives, the oldest first."""
         return around.survey(LineFolder(self.folder), self.name, sealed.named).archives
-
-    def archive_file(self, number: int = -1) -> pathlib.Path:
-        """The file of an archive, by its place in the chain."""
-        return catalogue.path_of(self.folder, self.archives()[number])
 
     def newest(self) -> pathlib.Path:
         """The newest sealed file."""
