@@ -78,6 +78,7 @@ def test_a_line_that_this_user_may_not_look_into_stops_no_other(
     [
         (b"line = L2\ninbx = /srv/x\n", "inbx is none of"),
         (b"line = L2\ninbox = /srv/x\n", "inbox is none of"),
+        (b"line = L2\nurl = http://x\n", "url is none of"),
         (b"line = L2\nport = http\n", "port is none of"),
         (b"line = L2\ndb = x/desk\n", "db is none of .* no whole path"),
         (b"line = L2\ndb = /desk\n", "in a folder of the line's own"),

@@ -22,7 +22,7 @@ FOLDER = Path(os.environ.get("TRACEDESK_SET_UP", "/etc/tracedesk"))
 PROXYS = "certificates.conf"  # it is there too: packaging/nginx.conf
 HOME = Path("/var/lib/tracedesk")
 DESK, PORT = HOME / "desk", 8080
-WORDS = "line db port url stop start key".split()
+WORDS = "line db port stop start key".split()
 PATHS = ("db", "key")
 SECTION = "line"  # configparser wants one, and set-up files have none
 
@@ -38,7 +38,6 @@ class Places:
     line: str
     db: Path
     port: int
-    url: str
     stop: str = ""
     start: str = ""
     key: str = ""  # the private key of ssh-keygen by which the evidence of a recall is signed
@@ -48,21 +47,22 @@ class Places:
         """The sealed files, and the books."""
         return self.db.with_name(model.SEALED)
 
+    @property
+    def url(self) -> str:
+        return f"http://127.0.0.1:{self.port}"
+
     def words(self) -> dict[str, str]:
-        """The words of the set-up file, and the folder of sealed files."""
-        words = {name: str(getattr(self, name)) for name in (*WORDS, "archive")}
+        """The words of the set-up file, and what follows from them."""
+        words = {name: str(getattr(self, name)) for name in (*WORDS, "url", "archive")}
         return {name: value for name, value in words.items() if value}
 
 
 def of_words(words: dict[str, str]) -> Places:
     """The places that a set-up file of these words names."""
-    db = Path(words.get("db", desk_of(words)))
-    port = words.get("port", str(PORT))
     return Places(
         line=words.get("line", ""),
-        db=db,
-        port=int(port),
-        url=words.get("url", f"http://127.0.0.1:{port}"),
+        db=Path(words.get("db", desk_of(words))),
+        port=int(words.get("port", PORT)),
         stop=words.get("stop", ""),
         start=words.get("start", ""),
         key=words.get("key", ""),
