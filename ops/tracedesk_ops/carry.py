@@ -89,14 +89,12 @@ class Messages:
 class Carrier:
     """Tells an archived desk to a new one whose last minute is `end`."""
 
-    def __init__(
-        self, archive: DeskTables, messages: Messages, end: int, loads: bool = True
-    ) -> None:
+    def __init__(self, archive: DeskTables, messages: Messages, end: int) -> None:
         self.archive, self.messages, self.end = archive, messages, end
         self.exposure = {
             name: reel.exposure(archive.minute) for name, reel in archive.reels.items()
         }
-        self.mounts = self.mounts_in_turn() if loads else []
+        self.mounts = self.mounts_in_turn()
         self.mounted = {reel.reel: before for before, _, _, reel, _ in self.mounts}
 
     def mounts_in_turn(self) -> list[Mount]:
@@ -229,9 +227,7 @@ class Carrier:
 
 
 def begun(
-    archive: DeskTables,
-    checksum: str,
-    at: int | None = None,
+    archive: DeskTables, checksum: str, at: int | None = None
 ) -> tuple[list[str | Setup], Carrier]:
     """The messages of a new desk that begins where an archived one with this checksum ended, and
     who tells what is not in them. It has the archived desk's newest heads."""

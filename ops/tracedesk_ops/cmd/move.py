@@ -171,7 +171,7 @@ def arrival(
     reel = alone.reels[called]
     want_time(new, reel, end)
     messages.minute = new.minute
-    carry.Carrier(alone, messages, end, loads=False).all()
+    carry.Carrier(alone, messages, end).all()
     if new.commands + len(messages.lines) > new.greatest:
         raise NotMoved(
             f"DeskFull: the new desk has {new.commands} of {new.greatest} commands: begin a new one"
