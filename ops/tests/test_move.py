@@ -14,7 +14,7 @@ import pathlib
 import sqlite3
 import subprocess
 import urllib.parse
-from typing import Any, Optional, Union
+from typing import Any, Callable, Optional, Union
 
 import pytest
 
@@ -327,17 +327,13 @@ def test_reel_that_is_taken(two: Two, words: str) -> None:
 # --- How the tool itself ends
 
 
-def test_messages_of_the_tool(two: Two) -> None:
-    messages, told = move("fresh", *two.way())
-    done = run_tool("move", "fresh", *two.way()).expect()
-    assert [json.loads(line) for line in done.out.splitlines()] == messages
+@pytest.mark.parametrize("reel, status", [("fresh", 0), ("mounted", 1)])
+def test_the_tool_says_what_is_tried_above(two: Two, reel: str, status: int) -> None:
+    messages, told = move(reel, *two.way())
+    done = run_tool("move", reel, *two.way()).expect(status)
+    printed = [json.loads(line) for line in done.out.splitlines()]
+    assert printed == ([] if status else messages)
     assert done.err == "".join(f"tracedesk-move: {line}\n" for line in told.splitlines())
-
-
-def test_refusal_of_the_tool(two: Two) -> None:
-    _, told = move("mounted", *two.way())
-    done = run_tool("move", "mounted", *two.way()).expect(1)
-    assert (done.out, done.err) == ("", f"tracedesk-move: {told}\n")
 
 
 @pytest.mark.parametrize(
@@ -363,33 +359,36 @@ def test_full_disk(two: Two) -> None:
 # --- Files
 
 
-def refused(old: pathlib.Path, new: pathlib.Path) -> str:
-    name, _ = move("fresh", "--from", old, "--to", new)
+def refused(two: Two) -> str:
+    name, _ = move("fresh", *two.way())
     return str(name)
 
 
-def test_file_that_is_no_desk(two: Two) -> None:
-    text = two.folder / "text"
-    text.write_text("no database\n" * 100)
-    assert refused(text, two.new.file) == "NotADesk"
-    assert refused(two.old.file, text) == "NotADesk"
+def is_altered(two: Two) -> None:
+    """As a changed bit would."""
+    with contextlib.closing(sqlite3.connect(two.new.file)) as database, database:
+        database.execute("UPDATE reel SET lot = 'X' WHERE reel = 'there'")
 
 
-def test_file_that_is_not_there(two: Two) -> None:
-    assert refused(two.folder / "none", two.new.file) == "Unreadable"
-
-
-def test_desk_that_is_not_lawful(two: Two) -> None:
-    with contextlib.closing(sqlite3.connect(two.old.file)) as database, database:
-        database.execute("UPDATE reel SET lot = 'X' WHERE reel = 'fresh'")  # as a changed bit would
-    assert refused(two.old.file, two.new.file) == "NotLawful"
-
-
-def test_desk_that_is_full(two: Two) -> None:
-    full = Desk(two.program, two.folder / "full")
+def is_full(two: Two) -> None:
+    two.new.remove()
     (clock,) = texts([say("ClockSet", "f", 970)])
-    run([full.program, "feed", "--db", full.file, "--greatest", 2], given=clock + b"\n").expect()
-    assert refused(two.old.file, full.file) == "DeskFull"
+    words: list[Word] = [two.program, "feed", "--db", two.new.file, "--greatest", 2]
+    run(words, given=clock + b"\n").expect()
+
+
+@pytest.mark.parametrize(
+    "happens, name",
+    [
+        (lambda two: two.new.file.write_text("no database\n" * 100), "NotADesk"),
+        (lambda two: two.new.file.unlink(), "Unreadable"),
+        (is_altered, "NotLawful"),
+        (is_full, "DeskFull"),
+    ],
+)
+def test_a_file_that_takes_no_reel(two: Two, happens: Callable[[Two], object], name: str) -> None:
+    happens(two)
+    assert refused(two) == name
 
 
 def test_desk_that_a_run_has_open(two: Two) -> None:
@@ -400,7 +399,7 @@ def test_desk_that_a_run_has_open(two: Two) -> None:
         feed.stdin.write(clock + b"\n")
         feed.stdin.flush()
         feed.stdout.readline()
-        assert refused(two.old.file, two.new.file) == "InUse"
+        assert refused(two) == "InUse"
         feed.stdin.close()
 
 

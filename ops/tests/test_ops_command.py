@@ -2,7 +2,6 @@
 from __future__ import annotations
 
 import argparse
-import os
 import pathlib
 import shutil
 import subprocess
@@ -232,15 +231,6 @@ def test_without_room_nothing_is_begun(
     said = capsys.readouterr().err
     assert said.count("10,000 bytes are free") == 2 and "make room" in said
     assert called.files() == [1] and not called.line.work.exists()
-
-
-def test_a_second_name_of_the_desk_keeps_it_from_running(
-    called: Called, capsys: pytest.CaptureFixture[str]
-) -> None:
-    called.ends("seal")
-    os.link(called.line.desk, called.line.path / "other")
-    assert called.ends("check") == 1
-    assert "another name" in capsys.readouterr().err
 
 
 def test_a_check_writes_nothing(called: Called) -> None:
