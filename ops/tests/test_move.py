@@ -20,12 +20,11 @@ import pytest
 
 from lab import Answer
 from lab.desk import Desk
-from lab.floor import OLD_BOARDS, PARTS, Floor, say, spelled, texts
-from lab.here import call_here
+from lab.floor import OLD_BOARDS, PARTS, Floor, say, texts
 from lab.line import table
 from lab.messages import Message
-from lab.tools import Word, run, run_tool, strings, tool
-from tracedesk_ops import copies, plant, sealing
+from lab.tools import Word, call_tool, run, run_tool, strings, tool
+from tracedesk_ops import catalogue, copies, plant, sealing
 from tracedesk_ops.line import LineFolder
 
 REELS = 12  # of a seed
@@ -47,7 +46,7 @@ PAST = ("received", "placed", "scrapped")  # of a card: what each desk counts fo
 def move(*words: Word) -> tuple[Union[str, list[Message]], str]:
     """The messages that the tool prints, or the name of what it refuses; and what it says
     besides."""
-    done = call_here("move", *words)
+    done = call_tool("move", *words)
     lines = [line.partition(": ")[2] for line in done.err.splitlines()]
     if done.status:
         assert not done.out
@@ -145,7 +144,7 @@ class Moving(Two):
         last = max(minute_of(self.old) or 0, minute_of(self.new) or 0)
         ahead = self.random.choice(AHEAD)
         at = None if ahead is None else last + ahead
-        words = [reel, *self.way(), *([] if at is None else ["--at", spelled(at)])]
+        words = [reel, *self.way(), *([] if at is None else ["--at", catalogue.spelled(at)])]
         arrives, told = move(*words)
         leaves, _ = move(*words, "--leaving")
         refusal = self.wanted(reel, at)

@@ -2,17 +2,19 @@
 from __future__ import annotations
 
 import argparse
+import contextlib
+import os
 import pathlib
 import shutil
+import signal
 import subprocess
 import sys
-from collections.abc import Callable
+from collections.abc import Callable, Iterator
 
 import pytest
 
 from lab import ROOT, files
 from lab.desk import Desk
-from lab.here import process_as_it_was
 from lab.messages import FIRST_LINE, part
 from lab.waits import PATIENCE
 from tracedesk_ops import chains, cli, held, lineage, plant, sealed
@@ -24,6 +26,19 @@ DAMAGED: dict[str, Callable[[bytes], bytes]] = {  # what becomes of a desk's byt
     "a broken page": lambda text: text[:4096].replace(b"accepted", b"\xff" * 8) + bytes(40960),
     "empty": lambda text: b"",
 }
+
+
+@contextlib.contextmanager
+def process_as_it_was() -> Iterator[None]:
+    """Puts back what a tool changes of this process: its umask and its signals."""
+    mask = os.umask(0o022)
+    signals = {number: signal.getsignal(number) for number in (signal.SIGTERM, signal.SIGHUP)}
+    try:
+        yield
+    finally:
+        os.umask(mask)
+        for number, handler in signals.items():
+            signal.signal(number, handler)
 
 
 class Called:

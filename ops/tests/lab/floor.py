@@ -1,12 +1,11 @@
 """Random messages of a small shop floor, so that many are accepted and many are not."""
-import datetime
 import json
 import random
 from typing import Any, Callable, Iterable, Iterator
 
 from lab.messages import Message
+from tracedesk_ops import catalogue
 
-EPOCH = datetime.datetime(1970, 1, 1)
 LEVELS = ("1", "2", "2a", "3", "4", "5", "5a", "6")
 MACHINES, PRODUCTS, SLOTS = ("M 1", "M2"), ("PR", "P&S"), ("1", "2", "3+")
 PARTS = ("A", "B", "C", "D,E")
@@ -33,10 +32,6 @@ WEIGHTS = {  # a few words come often, as they do on a line
 }
 
 
-def spelled(minute: int) -> str:
-    return (EPOCH + datetime.timedelta(minutes=minute)).isoformat() + "Z"
-
-
 def texts(messages: Iterable[Message]) -> list[bytes]:
     """The messages as lines."""
     return [json.dumps(message).encode() for message in messages]
@@ -48,7 +43,7 @@ def say(word: str, uid: str, minute: int, **body: Any) -> Message:
         "MessageName": f"TraceDesk.{word}",
         "UniqueID": uid,
         "Source": "T",
-        "TimeStamp": spelled(minute),
+        "TimeStamp": catalogue.spelled(minute),
         "MessageBody": body,
     }
 
@@ -70,7 +65,7 @@ class Floor:
             "MessageName": f"TraceDesk.{word}",
             "UniqueID": f"{prefix}{self.said}",
             "Source": "S",
-            "TimeStamp": spelled(self.minute - late),
+            "TimeStamp": catalogue.spelled(self.minute - late),
             "MessageBody": body,
         }
 
