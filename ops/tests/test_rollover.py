@@ -147,19 +147,12 @@ def test_new_desk_at_another_minute(half: Line, off: int) -> None:
     assert half.rows("SELECT max(effective) FROM accepted") == [(minute + off,)]
 
 
-def test_board_in_work_is_a_reason_to_refuse(half: Line, shifted: Shifted) -> None:
+def test_a_board_may_be_in_work_if_that_is_asked_for(half: Line, shifted: Shifted) -> None:
     rest = shifted.lines[shifted.upto :]
     place = next(n for n, line in enumerate(rest) if b"WorkStarted" in line)
     half.post(rest[: place + 1])
-    half.rollover().expect(3, "in work: ")
-    half.expect_tidy()
     half.rollover("--with-board-in-work").expect()
     half.expect_tidy()
-
-
-def test_desk_that_has_taken_nothing_is_not_archived(line: Line) -> None:
-    line.rollover().expect()
-    line.rollover().expect(3, "has taken no command")
 
 
 def test_whether_it_is_due(half: Line, shifted: Shifted) -> None:
