@@ -75,7 +75,7 @@ class Line:
         self.folder, self.tracedesk, self.port = folder, tracedesk, port
         self.desk, self.drained = folder / "desk", folder.with_name("drained")
         self.pid, self.serve = folder.with_name("pid"), folder.with_name("serve")
-        words = f"'{tracedesk}' serve --db '{self.desk}' --port {port} --connections 2000000"
+        words = f"'{tracedesk}' serve --db '{self.desk}' --port {port} --connections 1000000"
         self.serve.write_text(f"{words} > /dev/null & echo $! > '{self.pid}'\n")
 
     def service(self) -> list[object]:
