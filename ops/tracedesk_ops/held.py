@@ -50,7 +50,7 @@ UID = "SELECT uid FROM accepted WHERE number = ?"
 WATCHDOG = """
 import contextlib, os, select, signal, socket, sys
 said = socket.socket(fileno=0)
-limits = dict(a=float(sys.argv[2]), h=float(sys.argv[3]), f=None)
+limits = dict(c=float(sys.argv[2]), a=float(sys.argv[2]), h=float(sys.argv[3]), f=None)
 limit, link, awaited = None, None, []
 said.send(b"r")
 while ready := select.select([said, *awaited], [], [], limit)[0]:
@@ -172,6 +172,7 @@ def copy(desk: pathlib.Path, port: int, marker: bytes, to: pathlib.Path) -> Copi
 
 def wait_for_turn(link: http.client.HTTPConnection, said: "Said") -> None:
     """Connects, and waits until the desk answers nobody else."""
+    said("c")
     link.connect()
     link.auto_open = 0  # a connection that the desk ends is not begun anew
     said("a", link.sock)
@@ -270,7 +271,9 @@ def watchdog() -> Iterator["Said"]:
 
 
 class Said:
-    """Says a letter to the watchdog: an answer is awaited, the connection is held, it is free."""
+    """Says a letter to the watchdog: a connection is made, an answer is awaited, the connection is
+    held, it is free.
+    """
 
     def __init__(self, to: socket.socket) -> None:
         self.to = to
