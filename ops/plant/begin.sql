@@ -1,5 +1,5 @@
--- What each query begins with: whether it is about a lot, a reel or a board, and which plants answer. One transaction has one snapshot of
--- each plant.
+-- What each query begins with: whether it is about a lot, a reel or a board, and which plants
+-- answer. One transaction has one snapshot of each plant.
 \set ON_ERROR_STOP on
 \set QUIET on
 SET search_path TO plant;
@@ -14,6 +14,8 @@ SET search_path TO plant;
     \set wanted :board
 \endif
 BEGIN ISOLATION LEVEL REPEATABLE READ READ ONLY;
-SET LOCAL jit = off; SET LOCAL enable_nestloop = off;  -- nobody knows how many pieces a name has in other plants
+-- nobody knows how many pieces a name has in other plants
+SET LOCAL jit = off; SET LOCAL enable_nestloop = off;
 SELECT coalesce(array_agg(plant) FILTER (WHERE fault IS NULL), '{}') AS plants,
-       coalesce(string_agg(named(plant, fault, ': '), E'\n' ORDER BY plant), '') AS away FROM asking() \gset
+       coalesce(string_agg(named(plant, fault, ': '), E'\n' ORDER BY plant), '') AS away
+FROM asking() \gset
