@@ -9,10 +9,8 @@ LANGUAGE sql STABLE AS
 $$ SELECT CASE plant WHEN current_database() THEN what ELSE plant || mark || what END $$;
 
 -- What is to be said of an answer, in the same snapshot: files that are not loaded, work that is in
--- no trace, pieces in doubt. By a note the answer stays exact. A piece in doubt may be of any reel of
--- its part: one that the desk refused may have been on the slot all the same. If the line knows no
--- reel of the name, it may be on each machine on which such a reel was refused. A machine's reel that
--- no desk knows may be of any lot and part.
+-- no trace, and pieces in doubt that may be of a reel or a part that is asked for. By a note the
+-- answer stays exact.
 CREATE OR REPLACE FUNCTION faults(kind text, wanted text, plants text[])
 RETURNS TABLE (said text, is_note boolean) LANGUAGE sql STABLE AS $$
     WITH own AS MATERIALIZED (  -- each plant is asked once
@@ -20,20 +18,19 @@ RETURNS TABLE (said text, is_note boolean) LANGUAGE sql STABLE AS $$
         WHERE known.kind = $1 AND known.wanted = $2 AND known.plant = ANY (plants)
     ), doubts AS (
         SELECT doubt.*, ARRAY(SELECT own.part FROM own
-            WHERE own.plant = doubt.plant AND own.line = doubt.line) AS parts
+            WHERE own.plant = doubt.plant AND own.line = doubt.line) AS asked
         FROM doubt WHERE doubt.plant = ANY (plants)
     )
     SELECT named(plant, fault, ': '), is_note FROM fault WHERE plant = ANY (plants)
     UNION ALL SELECT named(plant, format(
-        'doubtful piece of %s: %s of board %s, %s, may not be of %s of lot %s%s: %s',
-        line, designator, board, spelled(to_timestamp(minute * 60)), reel, lot,
-        CASE other_reels WHEN '{}' THEN '' ELSE format(', but of %s of lot %s',
+        'doubtful piece of %s: %s of board %s, %s, may %s%s: %s',
+        line, designator, board, spelled(to_timestamp(minute * 60)),
+        CASE reel WHEN '' THEN '' ELSE format('not be of %s of lot %s, but ', reel, lot) END,
+        CASE other_reels WHEN '{}' THEN 'be of another one' ELSE format('be of %s of lot %s',
             array_to_string(other_reels, ' or '), array_to_string(other_lots, ' or ')) END,
         why), ': '), false
-    FROM doubts WHERE CASE $1 WHEN 'board' THEN board IN ($2, '') ELSE reel = ''
-        OR $2 = ANY (CASE $1 WHEN 'lot' THEN lot || other_lots ELSE reel || other_reels END)
-        OR part = ANY (parts)
-        OR $1 = 'lot' AND '' = ANY (other_lots) AND why LIKE 'the machine names another reel%'
-        OR parts = '{}' AND CASE $1 WHEN 'lot' THEN refused <> '{}' ELSE $2 = ANY (refused) END END
+    FROM doubts WHERE CASE $1 WHEN 'board' THEN board IN ($2, '')
+        ELSE '' = ANY (parts) OR asked && parts
+            OR $2 = ANY (CASE $1 WHEN 'lot' THEN lot || other_lots ELSE reel || other_reels END) END
 $$;
 RESET check_function_bodies;

@@ -89,6 +89,15 @@ CREATE TABLE IF NOT EXISTS untraced (
     reason     text NOT NULL,
     PRIMARY KEY (line, id)
 );
+SELECT to_regclass('refused') IS NOT NULL AS is_old \gset
+\if :is_old
+    DROP VIEW IF EXISTS doubt;  -- of 1.0.0: what is in doubt is looked for anew
+    DROP TABLE refused, doubtful;
+    INSERT INTO lacking
+        SELECT line, 'untraced work and doubtful pieces', 'call tracedesk-plant-load again'
+        FROM looked WHERE line NOT LIKE '%; %' ON CONFLICT DO NOTHING;
+    DELETE FROM looked WHERE line NOT LIKE '%; %';
+\endif
 -- pieces that may be of another reel than placement says, as ops/tracedesk-recall has them
 CREATE TABLE IF NOT EXISTS doubtful (
     line        text NOT NULL,
@@ -103,15 +112,7 @@ CREATE TABLE IF NOT EXISTS doubtful (
     other_lots  text[] NOT NULL,
     why         text NOT NULL,
     file        text NOT NULL,
-    part        text NOT NULL
-);
--- reels that the desk of a line refused and does not know, and the machines on which they may have
--- been
-CREATE TABLE IF NOT EXISTS refused (
-    line    text NOT NULL,
-    reel    text NOT NULL,
-    machine text NOT NULL,
-    PRIMARY KEY (line, reel, machine)
+    parts       text[] NOT NULL        -- a recall of these names it too; the empty one is any
 );
 -- of which files and records of a line untraced work and doubtful pieces were looked for
 CREATE TABLE IF NOT EXISTS looked (
@@ -170,11 +171,9 @@ SELECT to_regprocedure('spelled(bigint)') IS NOT NULL AS is_old \gset
     INSERT INTO lacking SELECT DISTINCT unnest(string_to_array(line, '; ')),
         'untraced work and doubtful pieces',
         'lines had one folder for them: call tracedesk-plant-load again'
-        FROM (
-            SELECT line FROM looked UNION SELECT line FROM untraced UNION SELECT line FROM doubtful
-        ) its WHERE line LIKE '%; %' ON CONFLICT DO NOTHING;
+        FROM (SELECT line FROM looked UNION SELECT line FROM untraced) its
+        WHERE line LIKE '%; %' ON CONFLICT DO NOTHING;
     DELETE FROM untraced WHERE line LIKE '%; %';
-    DELETE FROM doubtful WHERE line LIKE '%; %';
     DELETE FROM looked WHERE line LIKE '%; %';
 \endif
 \ir asking.sql
@@ -256,11 +255,9 @@ CREATE OR REPLACE VIEW fault AS
             'Untraced work about which somebody decided, in the table plant.untraced: %s',
             count(*)), true
             FROM untraced WHERE became <> '' HAVING count(*) > 0) its;
--- pieces in doubt, each with the reels that were refused on its machine
+-- pieces in doubt
 CREATE OR REPLACE VIEW doubt AS
-    SELECT current_database()::text AS plant, doubtful.*, ARRAY(SELECT refused.reel FROM refused
-        WHERE refused.line = doubtful.line AND refused.machine = doubtful.machine) AS refused
-    FROM doubtful;
+    SELECT current_database()::text AS plant, doubtful.* FROM doubtful;
 CREATE OR REPLACE VIEW states AS
     SELECT current_database()::text AS plant, token, number FROM state;
 

@@ -18,7 +18,7 @@ pytestmark = [pytest.mark.xdist_group("plant_load_lines")]
 
 SEED, BOARDS = 9, 12
 OLDER = "2026-03-02T060000Z"  # the day of the file that is loaded before the desk goes back
-SAYS = r"doubtful piece of D1: (\w+) of board B1, \S+, may not be of K1"
+SAYS = r"doubtful piece of D1: (\w+) of board B1, \S+, may not be of K\d"
 
 
 @pytest.fixture(scope="module")
@@ -180,7 +180,8 @@ def test_doubtful_pieces_are_those_of_a_recall(doubted: Doubted, kind: str, name
 
 def test_doubtful_pieces_have_the_other_reel(doubted: Doubted) -> None:
     query = "SELECT designator, reel, other_reels, other_lots FROM doubtful ORDER BY 1"
-    wanted = [("R1", "K1", "{K2}", "{L2}"), ("R2", "K1", "{K2}", "{L2}")]
+    wanted = [(name, "K1", "{K2}", "{L2}") for name in ("R1", "R2")]
+    wanted.append(("R3", "K2", "{K1}", "{L1}"))
     assert doubted.database.rows(query) == wanted
 
 
@@ -200,13 +201,21 @@ def test_untraced_work_is_named_until_it_is_decided(doubted: Doubted) -> None:
         assert database.rows(query) == [("scrapped", "A. Person", "as seen")]
 
 
+def test_a_board_that_is_kept_is_doubtful(doubted: Doubted) -> None:
+    record = doubted.put(a_record(1))
+    collecting.decide(doubted.line.archive, record, "A. Person", "used as it is", "as seen")
+    doubted.load()
+    said = doubted.database.query("pieces", 3, lot="L1").said
+    assert re.search(r"piece of D1:  of board B1, .* may be of another one: worked", said)
+
+
 @pytest.mark.parametrize(
     ("kind", "name", "status"),
     [
         ("lot", "L2", 5),
         ("lot", "nowhere", 5),
         ("reel", "X9", 5),
-        ("reel", "X8", 1),
+        ("reel", "X8", 5),
         ("board", "B1", 5),
     ],
 )

@@ -289,7 +289,7 @@ LACKS = {
     "a piece in doubt": (
         (
             "INSERT INTO doubtful VALUES ('L1', 'B8', 'C1', 'M', '1', 5, 'R9', 'NEW', '{S1}',"
-            " '{OTHER}', 'late', 'archive-1', 'P')"
+            " '{OTHER}', 'late', 'archive-1', '{P}')"
         ),
         "DELETE FROM doubtful",
         "brno: doubtful piece of L1: C1 of board B8, 1970-01-01T00:05:00Z, may not be of R9",

@@ -17,7 +17,7 @@ from lab.line import Line, NewLine
 from lab.messages import FIRST_LINE
 from lab.tools import Ended, Word, run, run_changed, tool
 from tracedesk_dev import begun
-from tracedesk_ops import catalogue, copies, doubtful, plant
+from tracedesk_ops import catalogue, copies, doubts, plant
 
 TARGET = "/slots?machine=M"
 SLOTS_HEADER = "slot,position,reel,part,lot,remaining,minutes_left\n"
@@ -175,5 +175,5 @@ def test_one_archive_is_open_at_a_time(
         counts.append(counts[-1] - 1)
 
     monkeypatch.setattr(catalogue, "opened", counted)
-    assert doubtful.look(folder / "L1", rows).faults == []
+    assert doubts.look(folder / "L1", rows).faults == []
     assert max(counts) == 1 and len(counts) > 2 * len(rows)

@@ -37,7 +37,7 @@ ODD = {
     "7": (302, b"", "status 302: : name the URL of a desk"),
 }
 SHORT, NO_LENGTH, NO_MESSAGES = "5", "6", "7"
-FAILS = "from tracedesk_ops import doubtful; doubtful.look = lambda *_: 1 / 0"
+FAILS = "from tracedesk_ops import doubts; doubts.look = lambda *_: 1 / 0"
 
 
 def log_in(user: str) -> str:

@@ -1,7 +1,7 @@
 """Untraced work of a line: reports of work that its desk refused, and what a person decided about
 each. For ops/tracedesk-untraced, ops/tracedesk-recall and those that copy a line's files. Refused
 loads, splices and unloads have records too, but nobody has to decide about them: a recall says
-which pieces they make doubtful (doubtful.py).
+which pieces they make doubtful (tapes.py).
 
 Senders put records into the line's folder `untraced`. `collect` appends each of them to
 `untraced.csv`, next to the sealed files, once:

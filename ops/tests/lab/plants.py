@@ -16,7 +16,7 @@ PIECES = "line, file, board, designator, part, lot, reel, machine, slot, overdue
 PARTS = "SELECT count(*) FROM pg_class WHERE relkind = 'r' AND relname LIKE 'placement%'"
 TABLES = (
     *("file", "lacking", "reel", "start", "command"),
-    *("placement", "untraced", "doubtful", "refused", "looked"),
+    *("placement", "untraced", "doubtful", "looked"),
 )
 TWICE = "SELECT line, board, designator FROM piece GROUP BY 1, 2, 3 HAVING count(*) > 1"
 

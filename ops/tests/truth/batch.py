@@ -11,7 +11,7 @@ from unittest import mock
 
 from lab.tools import Ended, run_tool
 from tracedesk import desk as desks
-from tracedesk_ops import catalogue, chains, collecting, doubtful, firstlook, untraced
+from tracedesk_ops import catalogue, chains, collecting, doubts, firstlook, untraced
 from tracedesk_ops.firstlook import Line, Question, ReelLeft
 from tracedesk_ops.recalls.desk import Desk
 from tracedesk_ops.recalls.recall import Recall
@@ -182,11 +182,11 @@ class Batch:
         self.chain = AskedOnce(str(self.place.program))
         looked = LookedOnce()
         with contextlib.ExitStack() as held:
-            database = held.enter_context(doubtful.copied(self.place.file))
+            database = held.enter_context(doubts.copied(self.place.file))
             for owner, name, its in (
                 (firstlook, "at", told_by_sql(firstlook.at)),
-                (doubtful, "copied", lambda _: contextlib.nullcontext(database)),
-                (doubtful, "look", looked),
+                (doubts, "copied", lambda _: contextlib.nullcontext(database)),
+                (doubts, "look", looked),
             ):
                 held.enter_context(mock.patch.object(owner, name, its))
             for number, run in enumerate(self.runs):
@@ -257,7 +257,7 @@ class Batch:
             databases = {
                 name: held.enter_context(catalogue.opened(file)) for name, file in files.items()
             }
-            databases[catalogue.RUNNING] = held.enter_context(doubtful.copied(self.place.file))
+            databases[catalogue.RUNNING] = held.enter_context(doubts.copied(self.place.file))
             for name, database in databases.items():
                 for row in database.execute(COMMANDS_OF, [f"%{run.name}\t%"]):
                     minutes = [minute - BEGIN for minute in row[1:3]]
@@ -284,7 +284,7 @@ class LookedOnce:
     machine."""
 
     def __init__(self) -> None:
-        self.look, self.machine = doubtful.look, ""
+        self.look, self.machine = doubts.look, ""
         self.told: Any = None
 
     def __call__(self, *words: Any) -> Any:

@@ -6,7 +6,7 @@ from typing import Any, Optional
 from tracedesk import desk as desks
 from tracedesk import records
 from tracedesk import untraced as places
-from tracedesk_ops import story
+from tracedesk_ops import doubts
 from truth.sources import Source
 from truth.world import BEGIN, Clock, Place
 
@@ -163,7 +163,7 @@ class Run:
         """Somebody decides of the refused reel that it was taken off."""
         kept = self.sources["tablet"].spool
         refused = kept.kept(kept.names("aside")[-1]).record
-        more = {"Became": story.TAKEN_OFF, "Of": refused, "Reason": "saw it"}
+        more = {"Became": doubts.TAKEN_OFF, "Of": refused, "Reason": "saw it"}
         name, text = records.record("decided", "A. Person", Clock.text(), **more)
         if self.inbox.beside:
             self.inbox.beside.put(f"{name}.json", text)

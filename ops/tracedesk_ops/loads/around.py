@@ -5,7 +5,7 @@ import hashlib
 import pathlib
 from collections.abc import Sequence
 
-from tracedesk_ops import catalogue, doubtful, untraced
+from tracedesk_ops import catalogue, doubts, untraced
 from tracedesk_ops.line import LineFolder
 from tracedesk_ops.loads.tables import Seen, Tables
 
@@ -44,7 +44,7 @@ class Around:
         """
         names = {it.file.name: it.name for it in self.seen}
         files = [catalogue.Archive(name, "", self.line, 0, 0, 0) for name in names]
-        its = doubtful.look(self.folder, files if is_whole else [])
+        its = doubts.look(self.folder, files if is_whole else [])
         with tables.link.transaction():
             for it, by, reels in its.works:
                 told = [by.told[key] for key in FATE] if by else [""] * len(FATE)
@@ -54,19 +54,15 @@ class Around:
                 self.load_doubts(tables, its, names)
         return faults
 
-    def load_doubts(self, tables: Tables, its: doubtful.Doubts, names: dict[str, str]) -> None:
+    def load_doubts(self, tables: Tables, its: doubts.Doubts, names: dict[str, str]) -> None:
         """Puts what is in doubt into the tables, in the place of what was. `names` are those of the
         files in the tables.
         """
         tables.do("DELETE FROM doubtful WHERE line = %s", self.line)
-        tables.do("DELETE FROM refused WHERE line = %s", self.line)
-        for reel, machines in its.story.machines.items():
-            for machine in machines if reel and reel not in its.story.parts else ():
-                tables.do("INSERT INTO refused VALUES (%s, %s, %s)", self.line, reel, machine)
         for piece in its.pieces:
             others = [list(piece.other_reels), list(piece.other_lots)]
-            of = names[piece.file], its.story.parts.get(piece.reel, "")
-            tables.do(DOUBT, self.line, *piece[:7], *others, piece.why, *of)
+            file = names.get(piece.file, "")
+            tables.do(DOUBT, self.line, *piece[:7], *others, piece.why, file, [*piece.parts])
         tables.has(self.line, LOOK)
         tables.do(LOOKED, self.line, self.checksum)
 

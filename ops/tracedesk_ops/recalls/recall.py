@@ -14,7 +14,7 @@ from tracedesk_ops import (
     around,
     catalogue,
     chains,
-    doubtful,
+    doubts,
     firstlook,
     model,
     plant,
@@ -22,7 +22,6 @@ from tracedesk_ops import (
 )
 from tracedesk_ops.firstlook import Line, Piece, Question, ReelLeft, Told
 from tracedesk_ops.line import LineFolder
-from tracedesk_ops.recalls.concern import Concern
 from tracedesk_ops.recalls.desk import RUNNING, Desk
 
 
@@ -288,8 +287,8 @@ class Recall:
         by its file; None if that is not at hand.
         """
         file = line_of(line).desk
-        with contextlib.suppress(OSError), doubtful.copied(file) as database:
-            if not doubtful.why_not(file, database, [newest] if newest else [], desk.has):
+        with contextlib.suppress(OSError), doubts.copied(file) as database:
+            if not doubts.why_not(file, database, [newest] if newest else [], desk.has):
                 left = firstlook.left_in(database, line, self.question)
                 timed = firstlook.with_minutes(database, told.pieces)
                 return Told(told.known or bool(left), timed), left
@@ -300,13 +299,13 @@ class Recall:
         the pieces of the question that may be of another reel.
         """
         name, has = line.name, functools.partial(self.has, line) if line.url else None
-        its = doubtful.look(line.folder, self.own(line), bool(line.url), has)
+        its = doubts.look(line.folder, self.own(line), bool(line.url), has)
         self.faults += its.faults
         for it, by, reels in its.works:
             said = untraced.said(it)[2:9]
             self.untraced.append([name, *said, it.id, reels, *untraced.outcome(by)])
-        concern = Concern(its.story, self.question)
-        self.doubtful += [[name, *it.row()] for it in its.pieces if it in concern]
+        pieces = its.tapes.concerning(self.question, its.pieces)
+        self.doubtful += [[name, *it.row()] for it in pieces]
 
     def has(self, line: Line, uid: str) -> bool | None:
         """Whether the running desk of a line has a UniqueID; None if it gives no answer, which is a

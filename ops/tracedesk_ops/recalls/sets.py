@@ -11,7 +11,7 @@ import sqlite3
 from collections.abc import Iterable, Iterator, Sequence
 from typing import NamedTuple
 
-from tracedesk_ops import around, attributes, catalogue, copies, doubtful, heads, sealed, stored
+from tracedesk_ops import around, attributes, catalogue, copies, doubts, heads, sealed, stored
 from tracedesk_ops.line import LineFolder
 from tracedesk_ops.firstlook import Line, Question
 
@@ -149,7 +149,7 @@ def files_of(line: Line) -> Iterator[tuple[pathlib.Path, bool]]:
 
 @contextlib.contextmanager
 def opened(file: pathlib.Path, is_running: bool) -> Iterator[sqlite3.Connection]:
-    with doubtful.copied(file) if is_running else catalogue.opened(file) as database:
+    with doubts.copied(file) if is_running else catalogue.opened(file) as database:
         yield database
 
 

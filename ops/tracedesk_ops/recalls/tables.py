@@ -6,7 +6,7 @@ import html
 from collections.abc import Iterable, Sequence
 from typing import Any
 
-from tracedesk_ops import catalogue, story, untraced
+from tracedesk_ops import catalogue, tapes, untraced
 from tracedesk_ops.firstlook import Piece, Question, ReelLeft
 from tracedesk_ops.recalls.recall import Asked, Recall
 
@@ -80,7 +80,7 @@ def tables_of(recall: Recall, shipped: Shipped | None) -> dict[str, Table]:
             ["line", *untraced.WORK, "id", "reels", *untraced.OUTCOME],
             *recall.untraced,
         ],
-        "doubtful": [["line", *story.HEADER], *recall.doubtful],
+        "doubtful": [["line", *tapes.HEADER], *recall.doubtful],
     }
 
 

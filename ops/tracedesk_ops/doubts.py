@@ -1,0 +1,264 @@
+"""What is around a line's traces: untraced work, and pieces that may be of another reel than the
+desk has it (tapes.py). For ops/tracedesk-recall and ops/tracedesk-plant-load.
+
+A board in work that the desk refused, or of which a machine names another reel, stays in doubt
+whatever somebody decides about it, unless it was scrapped.
+"""
+from __future__ import annotations
+
+import contextlib
+import datetime
+import functools
+import json
+import pathlib
+import sqlite3
+from collections.abc import Callable, Iterator, Sequence
+from typing import NamedTuple, Optional
+
+from tracedesk import records
+from tracedesk_ops import catalogue, copies, files, heads, model, plant, sealed, untraced
+from tracedesk_ops.line import LineFolder
+from tracedesk_ops.tapes import LOADED, DoubtfulPiece, Refusal, Tapes, Work
+
+Opener = Callable[[], contextlib.AbstractContextManager[sqlite3.Connection]]
+Decisions = dict[str, untraced.Record]  # the newest one of each record, by its id
+SINCE = "whether pieces since the last archive may be of other reels isn't known"
+Has = Callable[[str], Optional[bool]]  # whether a running desk has a UniqueID; None: no answer
+DIFFERS = "the machine names another reel"
+UNKNOWN = f"{DIFFERS}, which the desk doesn't know"
+KEPT = "worked though the desk refused it, and not scrapped"
+TAKEN_OFF = "taken off"  # what became of a refused reel from which nothing was placed
+# why a load is refused whose slot is empty
+OF_AN_EMPTY_SLOT = "UnknownReel ReelMounted ReelEmpty WrongPart NotBaked Expired".split()
+NO_PIECES = ("MaterialsScrapped", "WorkCompleted")  # reports that place none on a board
+
+
+class Doubts(NamedTuple):
+    """What is known of a line besides its traces: untraced work, each with its decision or none and
+    the reels that were on its machine; pieces in doubt; and what could not be looked at."""
+
+    works: list[tuple[untraced.Record, untraced.Record | None, str]]
+    pieces: list[DoubtfulPiece]
+    faults: list[str]
+    tapes: Tapes
+
+
+def look(
+    folder: pathlib.Path,
+    archives: list[catalogue.Archive],
+    is_running: bool = False,
+    has: Has | None = None,
+) -> Doubts:
+    """Looks at what is around a line's files; the archives are in the order of their chain. The
+    file of a desk that runs is read too; `has` says whether it has a UniqueID, or None."""
+    archive = LineFolder(folder).sealed
+    book = untraced.read(archive)
+    decided = untraced.decisions(book.records)
+    works = [it for it in untraced.refused(book.records) if untraced.is_work(it)]
+    differing = untraced.differing(book.records)
+    tapes = Tapes()
+    recorded: set[str] = set()  # a roll-over carries the newest head of a book alone
+    pieces: list[DoubtfulPiece] = []
+    faults: list[str] = []
+    try:
+        with contextlib.ExitStack() as held:
+            # one archive is open at a time: there may be many
+            at = ((it.file, functools.partial(catalogue.unchanged, folder, it)) for it in archives)
+            files: dict[str, Opener] = dict(at)
+            if is_running:
+                copy, why = running_file(LineFolder(folder).desk, archives, has, held)
+                files |= {catalogue.RUNNING: held_open(copy)} if copy else {}
+                faults += [f"{why}: {SINCE}"] if why else []
+            recorded |= tell(tapes, files)
+            tapes.judge(refusals_of(book.records, decided), map(work_of, works))
+            pieces = [*placed(tapes, files), *told(tapes, works, differing, decided)]
+    except (catalogue.CatalogueError, OSError, sqlite3.Error) as fault:
+        faults.append(f"{folder}: whether pieces may be of other reels isn't known: {fault}")
+    faults += untraced.missing(archive, recorded)
+    return Doubts(
+        [
+            *((it, decided.get(it.id), tapes.reels_on(work_of(it))) for it in works),
+            *((it, decided[it.id], it.told["DeskReel"]) for it in differing if it.id in decided),
+        ],
+        sorted(pieces, key=lambda it: (it.minute, it.board, it.designator)),
+        [*book.faults, *faults, *waiting(archive.with_name(model.STATUS))],
+        tapes,
+    )
+
+
+def tell(tapes: Tapes, files: dict[str, Opener]) -> set[str]:
+    """Has the files read, in the order of their chain; the heads of books that they recorded."""
+    recorded: set[str] = set()
+    for name, opened in files.items():
+        with opened() as database:
+            tapes.read(name, database)
+            recorded.update(heads.all_recorded_in(database))
+    return recorded
+
+
+def placed(tapes: Tapes, files: dict[str, Opener]) -> Iterator[DoubtfulPiece]:
+    """The pieces of tapes in doubt."""
+    for place, opened in enumerate(files.values()):
+        with opened() as database:
+            yield from tapes.pieces(place, database)
+
+
+def told(
+    tapes: Tapes,
+    works: list[untraced.Record],
+    differing: list[untraced.Record],
+    decided: Decisions,
+) -> Iterator[DoubtfulPiece]:
+    """Those in doubt by what machines name, and by what was decided."""
+    for record in differing:
+        if record.id not in decided or untraced.is_shipped(decided[record.id]):
+            yield from contradicted(tapes, record)
+    for record in works:
+        if untraced.is_shipped(decided.get(record.id)):
+            yield from kept(tapes, record)
+
+
+def contradicted(tapes: Tapes, record: untraced.Record) -> Iterator[DoubtfulPiece]:
+    """The pieces of which a machine names another reel than the desk. They are of one of the two,
+    if the desk knows both.
+    """
+    its, minute = record.told, minute_of(record.told["At"]) or 0
+    is_known = its["MachineReel"] in tapes.cards
+    why = f"{DIFFERS if is_known else UNKNOWN} ({record.id[:8]})"
+    for name in map(str, its["Designators"]):
+        where = its["Board"], name, its["Machine"], "", minute
+        piece = tapes.piece(where, its["DeskReel"], [its["MachineReel"]], why)
+        yield piece._replace(parts=frozenset()) if is_known else piece
+
+
+def kept(tapes: Tapes, record: untraced.Record) -> Iterator[DoubtfulPiece]:
+    """A board that was worked though the desk refused the report, and is no scrap: it may have each
+    reel that was on the machine, or refused on its tape.
+    """
+    if untraced.word_of(record) not in NO_PIECES:
+        work = work_of(record)
+        reels = [reel for tape in tapes.during(work) for reel in tape.reels]
+        where = untraced.said(record)[4], "", work.machine, work.slot, work.first
+        yield tapes.piece(where, "", reels, f"{KEPT} ({record.id[:8]})")
+
+
+# --- Records of what was refused
+
+
+def refusals_of(those: list[untraced.Record], decided: Decisions) -> Iterator[Refusal]:
+    """The loads, splices and unloads that were refused, but those of which somebody decided that
+    the reel was taken off.
+    """
+    for record in untraced.refused(those):
+        by = decided.get(record.id)
+        if not untraced.is_work(record) and not (by and by.told["Became"] == TAKEN_OFF):
+            work, why = work_of(record), record.told["Answer"].get("Refusal")
+            minute = minute_of(str(record.told["Message"].get("TimeStamp")))
+            reel = str(untraced.body_of(record).get("Reel", ""))
+            is_load = untraced.word_of(record) == LOADED
+            was_empty = why in OF_AN_EMPTY_SLOT if is_load else why == "SlotEmpty"
+            at = work.last if minute is None else minute
+            yield Refusal((work.machine, work.slot), at, reel, record.id[:8], was_empty)
+
+
+def minute_of(text: str) -> int | None:
+    """The minute of a time as a message has it, none where that can't be read."""
+    try:
+        then = datetime.datetime.fromisoformat(text)
+        utc = then.astimezone(datetime.timezone.utc).replace(tzinfo=None) if then.tzinfo else then
+    except (ValueError, OverflowError):  # the second of a year that UTC doesn't have
+        return None
+    return (utc - catalogue.EPOCH) // datetime.timedelta(minutes=1)
+
+
+def work_of(record: untraced.Record) -> Work:
+    message, body = record.told["Message"], untraced.body_of(record)
+    designators, quantity = body.get("Designators"), body.get("Quantity")
+    count = quantity if isinstance(quantity, int) and not isinstance(quantity, bool) else 0
+    if isinstance(designators, list):
+        count = len(designators)
+    minutes = sorted(
+        it
+        for it in map(minute_of, (str(message.get("TimeStamp")), record.told["At"]))
+        if it is not None
+    ) or [0, 1 << 40]
+    return Work(str(body.get("Machine")), str(body.get("Slot", "")), count, minutes[0], minutes[-1])
+
+
+# --- The running desk's file
+
+
+@contextlib.contextmanager
+def copied(file: pathlib.Path) -> Iterator[sqlite3.Connection]:
+    """A database of a running desk's file and log as they are now."""
+    with files.Room() as room:
+        to = pathlib.Path(room, "desk")
+        try:
+            copies.copy_live(file, to)
+            with copies.database(to) as database:
+                yield database
+        except (copies.Changing, sqlite3.Error) as fault:
+            raise catalogue.CatalogueError(f"{file}: {fault}") from fault
+
+
+def held_open(database: sqlite3.Connection) -> Opener:
+    return lambda: contextlib.nullcontext(database)
+
+
+def running_file(
+    desk: pathlib.Path,
+    archives: list[catalogue.Archive],
+    has: Has | None,
+    held: contextlib.ExitStack,
+) -> tuple[sqlite3.Connection | None, str]:
+    """A copy of a running desk's file, or why there is none."""
+    if not desk.exists():
+        return None, f"{desk} is not here"
+    copy = held.enter_context(copied(desk))
+    why = why_not(desk, copy, archives, has)
+    return (None if why else copy), why
+
+
+def why_not(
+    desk: pathlib.Path,
+    database: sqlite3.Connection,
+    archives: Sequence[catalogue.Archive],
+    has: Has | None,
+) -> str:
+    """Why a file is not the running desk's as it is now, if so; `database` is a copy of it. It may
+    be an older copy, or another desk's.
+    """
+    begun = sealed.begun_from(database)
+    if archives and begun != archives[-1].sha256[: model.DIGITS]:
+        return f"{desk} is not the running desk's: it didn't go on from the newest archive"
+    newest = database.execute("SELECT uid FROM accepted ORDER BY number DESC LIMIT 1").fetchone()
+    said = has(newest[0]) if has and newest else None
+    if said is None:
+        return ""  # who asks says that the desk gave no answer
+    if not said:
+        return (
+            f"{desk} is not the running desk's: that doesn't have {newest[0]}, the newest message"
+            " in the file"
+        )
+    if not plant.is_open(desk):
+        return (
+            f"{desk} may be older than the running desk: no desk of this machine has it open. Ask"
+            " on the desk's machine"
+        )
+    return ""
+
+
+def waiting(folder: pathlib.Path) -> Iterator[str]:
+    """Senders that hold messages for more than a minute, by what they say of themselves."""
+    for file in sorted(folder.glob("*.json")) if folder.is_dir() else ():
+        with contextlib.suppress(OSError, ValueError, TypeError, AttributeError, LookupError):
+            told = json.loads(records.shallow(files.read_plain(file, untraced.LONGEST)))
+            if not told.get("OldestWaiting"):
+                continue
+            since, now = minute_of(told["OldestWaiting"]), minute_of(told["At"])
+            if since is not None and now is not None and now - since > 1:
+                yield (
+                    f"{file}: {told['Waiting']} messages wait at {told['Sender']} since"
+                    f" {told['OldestWaiting']}, and the desk doesn't have them: ask again once they"
+                    " are sent"
+                )
