@@ -133,8 +133,6 @@ def test_a_book_that_was_lost_is_noticed_after_roll_overs_and_in_archives(
         line.more(name)
         line.rollover().expect()
         asked(line).expect(3, LACKED)
-    archives: list[Word] = ["--line", line.name, "-", line.folder]
-    asked(line, *archives).expect(3, LACKED)
     line.seal().expect(4, LACKED)
     run_tool("reels", "list", "--archive", line.archive).expect(3, LACKED)
 

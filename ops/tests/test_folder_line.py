@@ -64,8 +64,8 @@ def test_a_mirror_is_asked_up_to_its_newest_file(line: Line, folder: Path) -> No
     line.seal().expect()
     mirror = folder / "mirror"
     shutil.copytree(line.archive, mirror / "sealed")
-    words: list[Word] = ["lot", "L1", "--line", "L1", "-", mirror, "--show", "pieces"]
-    done = run_tool("recall", *words).expect(3, "its running desk is not asked", line.newest().name)
+    words: list[Word] = ["lot", "L1", "--line", "L1", mirror, "--show", "pieces"]
+    done = run_tool("recall", *words).expect(3, f"{mirror} has no desk", line.newest().name)
     assert done.out.count("\nB1,") == done.out.count("\nB2,") == 2
 
 

@@ -9,7 +9,7 @@ from lab.waits import wait_for
 
 pytestmark = [pytest.mark.root, pytest.mark.xdist_group("machine")]
 
-LOT = "tracedesk-recall lot L-77 --line L1 http://127.0.0.1:8080 /var/lib/tracedesk"
+LOT = "tracedesk-recall lot L-77 --line L1 /var/lib/tracedesk"
 REPORT = "/trace/lot?lot=L-77&detail=4"
 CLOCK_ALONE = r"""
 mkdir -p /root/idle; rm -f /root/idle/desk*

@@ -59,7 +59,7 @@ def test_a_serial_that_nobody_knows_is_named(line: Line, folder: pathlib.Path) -
 
 
 def test_no_serial_holds_none_if_not_all_were_asked(line: Line, folder: pathlib.Path) -> None:
-    done = recall(line, folder, SHIPPED, "--line", "L2", "http://127.0.0.1:9", folder)
+    done = recall(line, folder, SHIPPED, "--line", "L2", folder)
     done.expect(3, "Of your 2 serials 1 hold a piece, 0 hold none, 1 are not known.")
 
 

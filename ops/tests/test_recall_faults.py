@@ -1,11 +1,10 @@
 """What a recall can't ask: it is named, all else is asked, and the status says so."""
-import contextlib
 import pathlib
 import shutil
-from typing import Callable, Iterator
+from typing import Callable
 
 import pytest
-from lab.line import Line, table
+from lab.line import table
 from lab.recalls import copied, files_of, lot_of, recall, recalled
 from lab.tools import Word
 from lab.world import ArchivedLine, World
@@ -98,19 +97,7 @@ def archives_of(line: ArchivedLine, folder: pathlib.Path, order: str) -> list[Wo
     for number in order:
         file = line.older if number == "o" else line.archived[int(number) - 1]
         shutil.copy(file, folder / "sealed" / sealed.name_of(sealed.digits_of(file)))
-    return ["--line", line.name, line.url, folder]
-
-
-@contextlib.contextmanager
-def served_again(line: ArchivedLine, file: pathlib.Path, folder: pathlib.Path) -> Iterator[str]:
-    """The URL of a desk that goes on with a copy of a file."""
-    other = Line(line.program, folder)
-    shutil.copy(file, other.file)
-    other.serve()
-    try:
-        yield other.url
-    finally:
-        other.end()
+    return ["--line", line.name, folder]
 
 
 @pytest.mark.parametrize("name", GAPS)
@@ -123,15 +110,6 @@ def test_a_gap_in_the_chain_is_named(world: World, folder: pathlib.Path, name: s
     assert sorted((folder / "L1/sealed").iterdir()) == before
 
 
-def test_an_older_desk_that_runs_is_named(world: World, folder: pathlib.Path) -> None:
-    words = archives_of(world.first, folder / "L1", "1234")
-    last = world.first.archived[-1]
-    with served_again(world.first, last, folder / "older") as url:
-        words[2] = url
-        done = recall("lot", lot_of(world), *words)
-    done.expect(3, f"this desk did not go on from {last.name}", "NOT ALL WERE ASKED")
-
-
 def test_a_folder_with_a_line_end_in_its_name_has_no_gap(
     world: World, folder: pathlib.Path
 ) -> None:
@@ -142,37 +120,25 @@ def test_a_folder_with_a_line_end_in_its_name_has_no_gap(
 # --- What is swapped or doubled
 
 
-def test_swapped_urls_are_named(world: World) -> None:
-    one, two = (line.recall_words() for line in world.lines)
-    one[2], two[2] = two[2], one[2]
-    recall("lot", lot_of(world), *one, *two).expect(3, "it is another line's")
-
-
-def test_a_desk_by_two_names_is_named(world: World) -> None:
-    one, two = (line.recall_words() for line in world.lines)
-    two[2] = str(one[2]).replace("127.0.0.1", "localhost")
-    recall("lot", lot_of(world), *one, *two).expect(3, "it is another line's")
-
-
-def test_a_desk_that_was_begun_from_an_archive_wants_one(
-    world: World, folder: pathlib.Path
-) -> None:
-    words = [*world.first.recall_words()[:3], folder]
-    said = "was begun from an archive, and the line has none"
-    recall("lot", lot_of(world), *words).expect(3, said)
+def test_a_desk_that_does_not_run_is_named(world: World, folder: pathlib.Path) -> None:
+    """Also if nothing but its archive lacks: it was begun from one."""
+    (folder / "L1").mkdir()
+    for path in world.first.paths():
+        shutil.copy(path, folder / "L1" / path.name)
+    words: list[Word] = ["--line", "L1", folder / "L1"]
+    said = (f"no desk of this machine has {folder / 'L1/desk'} open", "is missing, from which")
+    recall("lot", lot_of(world), *words).expect(3, *said)
 
 
 def test_a_line_without_a_desk_is_never_whole(world: World, folder: pathlib.Path) -> None:
     words = copied(world.first, folder / "L1")
-    words[2] = "-"
-    last = world.first.archived[-1].name
-    said = f"its running desk is not asked, since its URL is `-`: pieces that came after {last}"
+    said = f"has no desk: pieces that came after {world.first.archived[-1].name}"
     recall("lot", lot_of(world), *words).expect(3, said)
 
 
 def test_a_folder_of_two_lines_is_refused(world: World) -> None:
     one, two = (line.recall_words() for line in world.lines)
-    two[3] = one[3]
+    two[2] = one[2]
     recall("lot", lot_of(world), *one, *two).expect(2, "have the same folder")
 
 

@@ -37,7 +37,7 @@ class Young:
 
     def recalled(self, show: str, status: int = 0) -> Rows:
         """What the line's table in a file has of the lot."""
-        self.table.write_text(f"line,url,folder\nL1,{self.line.url},young\n")
+        self.table.write_text("line,folder\nL1,young\n")
         words = ["lot", self.lot, "--lines", self.table, "--show", show]
         done = recall(*words)
         if not self.line.archived:
@@ -91,15 +91,15 @@ def test_without_the_desks_file_the_newest_archive_says_what_is_left(
 ) -> None:
     young.roll_over()
     away = shutil.copytree(young.line.archive, folder / "away/sealed").parent
-    words = ["lot", young.lot, "--line", "L1", young.line.url, away, "--show", "reels"]
-    recall(*words).expect(3, "the running desk's file is not at hand")
+    words = ["lot", young.lot, "--line", "L1", away, "--show", "reels"]
+    recall(*words).expect(3, "has no desk")
     left = "SELECT reel FROM reel WHERE lot = ? AND remaining > 0"
     wanted = {reel for (reel,) in rows_of_archive(young.line.archived[0], left, young.lot)}
     assert {row["reel"] for row in recalled(*words, status=3)} == wanted
 
 
 def test_a_folder_that_may_not_be_mounted_is_named(young: Young) -> None:
-    done = recall("lot", young.lot, "--line", "L1", young.line.url, young.line.folder / "no")
+    done = recall("lot", young.lot, "--line", "L1", young.line.folder / "no")
     done.expect(3, "there is no such folder")
 
 
@@ -114,7 +114,7 @@ class Around:
         self.archive = shutil.copytree(world.first.archive, self.folder / "sealed")
 
     def words(self) -> list[Word]:
-        return ["lot", self.lot, "--line", "L1", self.line.url, self.folder]
+        return ["lot", self.lot, "--line", "L1", self.folder]
 
     def expect(self, status: int, *said: str) -> str:
         return recall(*self.words()).expect(status, *said).said
@@ -139,23 +139,16 @@ def whole(around: Around) -> Around:
 
 
 def test_a_desks_file_that_is_elsewhere_is_named(around: Around) -> None:
-    around.expect(3, f"{around.folder / 'desk'} is not here")
+    around.expect(3, f"{around.folder} has no desk")
 
 
 def test_a_copy_of_the_desks_file_is_named(around: Around, folder: pathlib.Path) -> None:
-    """Nobody keeps a copy up to date; and another desk that has it open says other things."""
+    """Nobody keeps a copy up to date."""
     copy = ArchivedLine(around.line.program, folder / "copy", "L1")
     for path in around.line.paths():
         shutil.copy(path, copy.folder / path.name)
     around.link(copy)
-    around.expect(3, "may be older than the running desk")
-    clock = messages.message("ClockSet", "of-the-copy", last_minute(around.line.last))
-    copy.feed([clock], statuses=(0,))
-    copy.serve()
-    try:
-        around.expect(3, "that doesn't have of-the-copy")
-    finally:
-        copy.end()
+    around.expect(3, "no desk of this machine has")
 
 
 def test_a_desk_that_a_restore_took_off_is_named_if_it_has_more(whole: Around) -> None:

@@ -42,7 +42,7 @@ class Site:
         self.queue = Queue(folder / "queue")
         self.queue.folder.mkdir()
         self.lines = folder / "lines.csv"
-        self.lines.write_text(f"line,url,folder\nL1,{line.url},{line.folder}\n")
+        self.lines.write_text(f"line,folder\nL1,{line.folder}\n")
         made = importlib.import_module("tracedesk_ops.recallpage.app").make(self.queue.folder)
         self.client = made.test_client()
 
@@ -135,12 +135,14 @@ def test_the_papers_have_the_answer(site: Site) -> None:
 
 
 def test_an_answer_that_is_not_complete_says_why(site: Site) -> None:
-    site.lines.write_text(f"line,url,folder\nL1,http://127.0.0.1:9,{site.line.folder}\n")
+    mirror = site.folder / "mirror/L1"
+    shutil.copytree(site.line.folder / "sealed", mirror / "sealed")
+    site.lines.write_text(f"line,folder\nL1,{mirror}\n")
     at = site.asked("lot", "L-3")
     site.worker().work(is_once=True)
     page = site.page(at)
     assert "NOT COMPLETE: 0 boards hold a piece of lot L-3, and more may be missing." in page
-    assert "L1: the running desk: Connection refused" in page
+    assert "L1: L1 has no desk" in page
     assert "Mend what is named, then ask again." in page
     site.expect_no_inside(page)
 
@@ -312,7 +314,6 @@ def test_half_a_question_is_none(site: Site, begins: str) -> None:
     ("text", "wanted"),
     [
         ("/var/lib/tracedesk/sealed/untraced.csv: it is old", "untraced.csv: it is old"),
-        ("L1: http://127.0.0.1:8080/messages: refused", "L1: the running desk: refused"),
         ("/etc/tracedesk", "tracedesk"),
         ("3/4 of it", "3/4 of it"),
     ],

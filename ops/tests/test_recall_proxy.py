@@ -213,7 +213,7 @@ def chromium(site: RecallSite) -> Iterator[Any]:
 def reader(site: RecallSite, line: Line, chromium: Any) -> Reader:
     """Who recalls over a small line."""
     lines = site.room / "lines.csv"
-    lines.write_text(f"line,url,folder\nL1,{line.url},{line.folder}\n")
+    lines.write_text(f"line,folder\nL1,{line.folder}\n")
     more = ["--program", str(line.program), "--lines", str(lines)]
     worker = Worker(site.queue, tool("recall"), more)
     made = Reader(site, chromium, worker)

@@ -10,7 +10,7 @@ from typing import Iterator
 import pytest
 from lab.line import table
 from lab.recalls import lot_of, recall
-from lab.tools import Ended, Word, run, run_tool, strings, tool
+from lab.tools import Ended, Word, run, run_changed, run_tool, strings, tool
 from lab.world import World
 
 pytestmark = [pytest.mark.xdist_group("recall_written")]
@@ -20,8 +20,9 @@ L1-000001,Customer A,2026-03-05,
 L1-000001,Customer B,2026-04-01,again
 """
 EVIDENCE = """SHA256SUMS asked.csv boards.csv
-    certificate.json chain-1.csv chain-2.csv desk-1.txt desk-2.txt doubtful.csv pieces.csv question.txt recall.html
+    certificate.json chain-1.csv chain-2.csv doubtful.csv pieces.csv question.txt recall.html
     reels.csv shipped.csv untraced.csv""".split()
+FAILS = "from tracedesk_ops import doubts; doubts.look = lambda *_: 1 / 0"
 
 
 class Written:
@@ -30,11 +31,8 @@ class Written:
     def __init__(self, world: World, folder: pathlib.Path) -> None:
         self.world, self.folder, self.lot = world, folder, lot_of(world)
         self.page, self.evidence = folder / "page.html", folder / "evidence"
-        lines = [
-            f"{line.name},{line.url},{os.path.relpath(line.folder, folder)}\n"
-            for line in world.lines
-        ]
-        (folder / "lines.csv").write_text("line,url,folder\n" + "".join(lines))
+        lines = [f"{line.name},{os.path.relpath(line.folder, folder)}\n" for line in world.lines]
+        (folder / "lines.csv").write_text("line,folder\n" + "".join(lines))
         self.shipped = folder / "shipped.csv"
         self.shipped.write_text(SHIPPED)
 
@@ -86,7 +84,7 @@ def test_the_page_has_the_boards(written: Written) -> None:
         *names,
         written.lot,
         "Customer A; Customer B",
-        "All were asked: 7 desks and archives",
+        "All were asked: 7 files",
     ):
         assert html.escape(text) in page
 
@@ -161,27 +159,23 @@ def test_a_name_that_nobody_knows(world: World, kind: str) -> None:
 
 # files that are no tables of lines, or none of shipped boards
 FILES = {
-    "bad.csv": b"line,url\nL1,-\n",
-    "nul.csv": b"line,url,folder\nL1,http://127.0.0.1:1,a\0b\n",
+    "bad.csv": b"line\nL1\n",
+    "nul.csv": b"line,folder\nL1,a\0b\n",
     "nobody.csv": b"board,customer,date\nB,,2026-03-09\n",
-    "netrc-binary": b"\xff",
 }
-# `@` is a folder with these files, `:` the words of the first line, URL its desk, ARCHIVED a file
+# `@` is a folder with these files, `:` the words of the first line, ARCHIVED a file
 BAD_WORDS = (
-    "lot X --line L1 URL -",
-    "lot X --line L1 - -",
+    "lot X --line L1 -",
     "lot X : :",
     "part X :",
-    "lot X --line L1 desk -",
     "lot X --lines @/bad.csv",
     "lot X --lines @/none.csv",
     "lot X --lines @/nul.csv",
     "lot X : --shipped @/bad.csv",
     "lot X : --shipped @/nobody.csv",
-    "lot X --line L1 URL @/circle/L1",
-    f"lot X --line L1 URL @/{'x' * 300}",
-    "lot X --line L1 URL ARCHIVED",
-    "lot X : --netrc @/netrc-binary",
+    "lot X --line L1 @/circle/L1",
+    f"lot X --line L1 @/{'x' * 300}",
+    "lot X --line L1 ARCHIVED",
 )
 
 
@@ -194,7 +188,6 @@ def test_words_that_are_not_taken(world: World, folder: pathlib.Path, text: str)
     for name, value in (
         (" :", f" {own}"),
         ("@", folder),
-        ("URL", world.first.url),
         ("ARCHIVED", world.first.archived[0]),
     ):
         text = text.replace(name, str(value))
@@ -209,14 +202,6 @@ def test_without_a_line_nothing_is_asked(folder: pathlib.Path) -> None:
     run_tool("recall", "lot", "X", env={"TRACEDESK_SET_UP": str(folder)}).expect(2)
 
 
-def test_a_desk_that_is_named_twice_is_refused(world: World) -> None:
-    again: list[Word] = ["--line", "L2", f"{world.first.url}/", world.second.folder]
-    done = recall("lot", "X", *world.first.recall_words(), *again)
-    done.expect(2, "have the same running desk")
-
-
-def test_a_password_is_not_sent_in_plain_text(world: World, folder: pathlib.Path) -> None:
-    (folder / "netrc").write_text("machine desk.plant login office password secret\n")
-    where: list[Word] = ["--line", "L1", "http://desk.plant:8080", world.second.folder]
-    done = recall("lot", "X", *where, "--netrc", folder / "netrc")
-    done.expect(2, "password in plain text")
+def test_a_failure_that_nobody_foresaw_has_a_status_of_its_own(world: World) -> None:
+    done = run_changed("recall", ["lot", lot_of(world), *world.first.recall_words()], FAILS)
+    assert done.expect(9).out == ""

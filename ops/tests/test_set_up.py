@@ -73,9 +73,3 @@ def test_recall_asks_all_lines(one: Line, two: Line) -> None:
 def test_each_tool_names_a_wrong_file(etc: pathlib.Path, words: list[str]) -> None:
     (etc / "L2.conf").write_text("line = L2\nports = 8080\n")
     run_tool(*words).expect(2, f"{etc}/L2.conf: ports is none of")
-
-
-def test_a_recall_notices_swapped_ports(one: Line, two: Line, etc: pathlib.Path) -> None:
-    for line, port in ((one, two.port), (two, one.port)):
-        set_up(etc, line, port=port)
-    run_tool("recall", "lot", "L1").expect(3, "is not the running desk's")

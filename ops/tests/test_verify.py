@@ -16,7 +16,7 @@ import pytest
 from lab.line import table
 from lab.recalls import lot_of, recall
 from lab.tools import Ended, Word, run, run_tool
-from lab.world import World
+from lab.world import RUNNING, World
 from tracedesk_ops.cmd import verify
 from tracedesk_ops.recalls import signing, verifying
 from tracedesk_ops.recalls.evidence import sums_of
@@ -133,7 +133,7 @@ def test_the_certificate_names_programs_files_and_marks(plant: Plant) -> None:
     assert len(programs["tracedesk-chain"]["sha256"]) == 64
     first = told["lines"][0]
     archives = [its["file"] for its in first["archives"]]
-    assert archives == [file.name for file in plant.world.first.archived]
+    assert archives == [*(file.name for file in plant.world.first.archived), RUNNING]
     digits = [its["sha256"][:24] for its in first["archives"]]
     assert [its["mark"][:24] for its in first["archives"]] == ["", *digits[:-1]]
     assert told["signed_by"] == signing.fingerprint(plant.key)

@@ -16,7 +16,7 @@ from collections.abc import Callable, Iterator, Sequence
 from typing import NamedTuple
 
 from tracedesk_ops import copies, files, heads, lineage, sealed
-from tracedesk_ops.catalogue import Archive
+from tracedesk_ops.catalogue import RUNNING, Archive
 from tracedesk_ops.line import LineFolder
 from tracedesk_ops.sealed import FilesFault, Sealed
 
@@ -28,23 +28,31 @@ ENDS = "SELECT min(effective), max(effective) FROM accepted"
 
 class Survey(NamedTuple):
     """The sealed files from which a desk of the line's history was begun, the oldest first; the
-    newest copy of its running desk, if there is one; and what isn't asked or is lacking.
+    newest copy of its running desk, if there is one; what isn't asked or is lacking; and the desk
+    as it is now.
     """
 
     archives: list[Archive]
     last: Archive | None
     faults: list[str]
+    desk: Archive | None = None
 
 
-def survey(line: LineFolder, name: str, read: Read = sealed.read) -> Survey:
-    """Reads and compares the files of a line."""
+def survey(
+    line: LineFolder, name: str, read: Read = sealed.read, room: Path | None = None
+) -> Survey:
+    """Reads and compares the files of a line. A copy of its desk is left in a room, if one is
+    given.
+    """
     faults: list[str] = []
+    running: Archive | None = None
     there, lost = (
         lineage.read_all(folder, faults, read) if folder.is_dir() else []
         for folder in (line.sealed, line.lost)
     )
     try:
-        with desk_now(line.desk) as desk:
+        with desk_now(line.desk, room) as desk:
+            running = row_of(desk, name) if desk and room else None
             members = history(desk, there, lost)
             if members:
                 faults += (its.text() for its in lineage.lacking(members, [*lost, *there]))
@@ -52,13 +60,14 @@ def survey(line: LineFolder, name: str, read: Read = sealed.read) -> Survey:
             last = max(copies_of, key=lambda file: file.rows, default=None)
     except (FilesFault, OSError, sqlite3.Error, copies.Changing) as fault:
         named = begun_from(there, begun_now(line.desk))
-        return Survey([row_of(file, name) for file in named], None, [*faults, str(fault)])
+        rows = [row_of(file, name) for file in named]
+        return Survey(rows, None, [*faults, str(fault)], running)
     if desk:
         members.pop()
     elif members and members[-1].digits not in {file.begun for file in there}:
         last = members.pop()
     rows = [row_of(file, name) for file in members]
-    return Survey(rows, row_of(last, name) if last else None, faults)
+    return Survey(rows, row_of(last, name) if last else None, faults, running)
 
 
 def history(desk: Sealed | None, there: list[Sealed], lost: list[Sealed]) -> list[Sealed]:
@@ -108,22 +117,26 @@ def begun_now(desk: Path) -> str:
 
 
 @contextlib.contextmanager
-def desk_now(desk: Path) -> Iterator[Sealed | None]:
-    """A copy of a desk's file as it is now, which may run; none if there is none."""
+def desk_now(desk: Path, room: Path | None = None) -> Iterator[Sealed | None]:
+    """A copy of a desk's file as it is now, which may run; none if there is none. It stays in a
+    room that is given.
+    """
     if not desk.exists():
         yield None
         return
-    with files.Room() as room:
-        copy = Path(room, "desk")
+    with contextlib.ExitStack() as held:
+        copy = Path(room or held.enter_context(files.Room()), RUNNING)
         copies.copy_live(desk, copy)
         copies.fold(copy)
-        yield sealed.read_of(copy, "")
+        yield sealed.read_of(copy, files.sha256_of(copy) if room else "")
 
 
 def row_of(file: Sealed, name: str) -> Archive:
     with sealed.opened(file.path) as database:
         ((first, last),) = copies.rows(database, ENDS)
-    return Archive(file.path.name, file.sha256, name, first or 0, last or 0, file.commands)
+    path = file.path if file.path.name == RUNNING else None
+    its = file.path.name, file.sha256, name, first or 0, last or 0, file.commands
+    return Archive(*its, path)
 
 
 def recorded(line: LineFolder) -> list[str]:

@@ -31,7 +31,8 @@ class CatalogueError(Exception):
 
 class Archive(NamedTuple):
     """A sealed file that a desk went on from; minutes are whole minutes since 1970-01-01T00:00Z.
-    `sha256` is its checksum, or the digits of it in the file's name, if that is believed.
+    `sha256` is its checksum, or the digits of it in the file's name, if that is believed. A copy of
+    the running desk has RUNNING for a name, and lies at `path`.
     """
 
     file: str
@@ -40,6 +41,7 @@ class Archive(NamedTuple):
     first_minute: int
     last_minute: int
     commands: int
+    path: pathlib.Path | None = None
 
 
 def spelled(minute: int) -> str:
@@ -58,8 +60,8 @@ def minute_of(text: str) -> int:
 
 
 def path_of(folder: pathlib.Path, archive: Archive) -> pathlib.Path:
-    """Where a sealed file of a line's folder lies."""
-    return LineFolder(folder).sealed / archive.file
+    """Where a sealed file of a line's folder lies, or the copy of its desk."""
+    return archive.path or LineFolder(folder).sealed / archive.file
 
 
 def opened(file: str | os.PathLike[str]) -> contextlib.AbstractContextManager[sqlite3.Connection]:

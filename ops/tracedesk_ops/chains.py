@@ -69,6 +69,10 @@ class Answer:
     def text(self) -> str:
         return "".join(self.printed)
 
+    def without(self, name: str) -> str:
+        """What it printed, without the rows of the file of this name."""
+        return "".join(text for text in self.printed if not text.rstrip().endswith(f",{name}"))
+
     def of_file(self, number: int) -> list[str]:
         """The rows of a file, as they were printed, without the file's name."""
         return [text for row, text in zip(self.rows, self.printed[1:]) if row["file"] == number]

@@ -12,18 +12,16 @@ import functools
 import json
 import pathlib
 import sqlite3
-from collections.abc import Callable, Iterator, Sequence
-from typing import NamedTuple, Optional
+from collections.abc import Callable, Iterator
+from typing import NamedTuple
 
 from tracedesk import records
-from tracedesk_ops import catalogue, copies, files, heads, model, plant, sealed, untraced
+from tracedesk_ops import catalogue, files, heads, model, untraced
 from tracedesk_ops.line import LineFolder
 from tracedesk_ops.tapes import LOADED, DoubtfulPiece, Refusal, Tapes, Work
 
 Opener = Callable[[], contextlib.AbstractContextManager[sqlite3.Connection]]
 Decisions = dict[str, untraced.Record]  # the newest one of each record, by its id
-SINCE = "whether pieces since the last archive may be of other reels isn't known"
-Has = Callable[[str], Optional[bool]]  # whether a running desk has a UniqueID; None: no answer
 DIFFERS = "the machine names another reel"
 UNKNOWN = f"{DIFFERS}, which the desk doesn't know"
 KEPT = "worked though the desk refused it, and not scrapped"
@@ -43,14 +41,8 @@ class Doubts(NamedTuple):
     tapes: Tapes
 
 
-def look(
-    folder: pathlib.Path,
-    archives: list[catalogue.Archive],
-    is_running: bool = False,
-    has: Has | None = None,
-) -> Doubts:
-    """Looks at what is around a line's files; the archives are in the order of their chain. The
-    file of a desk that runs is read too; `has` says whether it has a UniqueID, or None."""
+def look(folder: pathlib.Path, archives: list[catalogue.Archive]) -> Doubts:
+    """Looks at what is around a line's files, which are in the order of their chain."""
     archive = LineFolder(folder).sealed
     book = untraced.read(archive)
     decided = untraced.decisions(book.records)
@@ -61,17 +53,13 @@ def look(
     pieces: list[DoubtfulPiece] = []
     faults: list[str] = []
     try:
-        with contextlib.ExitStack() as held:
-            # one archive is open at a time: there may be many
-            at = ((it.file, functools.partial(catalogue.unchanged, folder, it)) for it in archives)
-            files: dict[str, Opener] = dict(at)
-            if is_running:
-                copy, why = running_file(LineFolder(folder).desk, archives, has, held)
-                files |= {catalogue.RUNNING: held_open(copy)} if copy else {}
-                faults += [f"{why}: {SINCE}"] if why else []
-            recorded |= tell(tapes, files)
-            tapes.judge(refusals_of(book.records, decided), map(work_of, works))
-            pieces = [*placed(tapes, files), *told(tapes, works, differing, decided)]
+        # one file is open at a time: there may be many
+        files: dict[str, Opener] = {
+            it.file: functools.partial(catalogue.unchanged, folder, it) for it in archives
+        }
+        recorded |= tell(tapes, files)
+        tapes.judge(refusals_of(book.records, decided), map(work_of, works))
+        pieces = [*placed(tapes, files), *told(tapes, works, differing, decided)]
     except (catalogue.CatalogueError, OSError, sqlite3.Error) as fault:
         faults.append(f"{folder}: whether pieces may be of other reels isn't known: {fault}")
     faults += untraced.missing(archive, recorded)
@@ -185,67 +173,7 @@ def work_of(record: untraced.Record) -> Work:
     return Work(str(body.get("Machine")), str(body.get("Slot", "")), count, minutes[0], minutes[-1])
 
 
-# --- The running desk's file
-
-
-@contextlib.contextmanager
-def copied(file: pathlib.Path) -> Iterator[sqlite3.Connection]:
-    """A database of a running desk's file and log as they are now."""
-    with files.Room() as room:
-        to = pathlib.Path(room, "desk")
-        try:
-            copies.copy_live(file, to)
-            with copies.database(to) as database:
-                yield database
-        except (copies.Changing, sqlite3.Error) as fault:
-            raise catalogue.CatalogueError(f"{file}: {fault}") from fault
-
-
-def held_open(database: sqlite3.Connection) -> Opener:
-    return lambda: contextlib.nullcontext(database)
-
-
-def running_file(
-    desk: pathlib.Path,
-    archives: list[catalogue.Archive],
-    has: Has | None,
-    held: contextlib.ExitStack,
-) -> tuple[sqlite3.Connection | None, str]:
-    """A copy of a running desk's file, or why there is none."""
-    if not desk.exists():
-        return None, f"{desk} is not here"
-    copy = held.enter_context(copied(desk))
-    why = why_not(desk, copy, archives, has)
-    return (None if why else copy), why
-
-
-def why_not(
-    desk: pathlib.Path,
-    database: sqlite3.Connection,
-    archives: Sequence[catalogue.Archive],
-    has: Has | None,
-) -> str:
-    """Why a file is not the running desk's as it is now, if so; `database` is a copy of it. It may
-    be an older copy, or another desk's.
-    """
-    begun = sealed.begun_from(database)
-    if archives and begun != archives[-1].sha256[: model.DIGITS]:
-        return f"{desk} is not the running desk's: it didn't go on from the newest archive"
-    newest = database.execute("SELECT uid FROM accepted ORDER BY number DESC LIMIT 1").fetchone()
-    said = has(newest[0]) if has and newest else None
-    if said is None:
-        return ""  # who asks says that the desk gave no answer
-    if not said:
-        return (
-            f"{desk} is not the running desk's: that doesn't have {newest[0]}, the newest message"
-            " in the file"
-        )
-    if not plant.is_open(desk):
-        return (
-            f"{desk} may be older than the running desk: no desk of this machine has it open. Ask"
-            " on the desk's machine"
-        )
-    return ""
+# --- Senders
 
 
 def waiting(folder: pathlib.Path) -> Iterator[str]:

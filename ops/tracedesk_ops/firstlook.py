@@ -20,10 +20,9 @@ LEFT = """SELECT reel, part, lot, remaining, iif(mount.reel IS NOT NULL, 'mounte
 
 
 class Line(NamedTuple):
-    """A line of the plant and its folder; `url` is empty if no desk runs."""
+    """A line of the plant and its folder."""
 
     name: str
-    url: str
     folder: pathlib.Path
 
 
@@ -68,7 +67,7 @@ class Question(NamedTuple):
 
 
 class Piece(NamedTuple):
-    """A placed piece; `minute` is None if the desk that has it doesn't report it."""
+    """A placed piece."""
 
     board: str
     designator: str
@@ -78,7 +77,7 @@ class Piece(NamedTuple):
     machine: str
     slot: str
     overdue: str
-    minute: int | None
+    minute: int
     line: str
     file: str
 
@@ -98,7 +97,7 @@ class ReelLeft(NamedTuple):
 
 
 class Told(NamedTuple):
-    """What a desk or an archive knows: whether the name, and its pieces."""
+    """What a file knows: whether the name, and its pieces."""
 
     known: bool
     pieces: list[Piece]
@@ -141,18 +140,6 @@ def told_by(
             for row in placed
         ],
     )
-
-
-def with_minutes(database: sqlite3.Connection, pieces: list[Piece]) -> list[Piece]:
-    """The pieces that a running desk told, with the minutes that its tables have of them."""
-    query = (
-        "SELECT designator, effective FROM placement JOIN accepted USING (number) WHERE board = ?"
-    )
-    placed = {
-        board: dict(copies.rows(database, query, board))
-        for board in dict.fromkeys(piece.board for piece in pieces)
-    }
-    return [piece._replace(minute=placed[piece.board].get(piece.designator)) for piece in pieces]
 
 
 def left_in(

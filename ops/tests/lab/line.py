@@ -78,7 +78,7 @@ class Line(Desk):
         return run(words, env={**own, **(env or {})}, limit=limit)
 
     def recall_words(self) -> list[Word]:
-        return ["--line", self.name, self.url, self.folder]
+        return ["--line", self.name, self.folder]
 
     def recall(self, *more: Word, lot: str = "L1") -> Ended:
         """Recalls a lot over the archives and the running desk."""

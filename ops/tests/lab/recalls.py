@@ -12,9 +12,8 @@ from lab.desk import rows_of_archive
 from lab.line import table
 from lab.tools import Ended, Word, run, run_tool
 from lab.world import World
-from tracedesk_ops import catalogue, chains
+from tracedesk_ops import catalogue, chains, files
 from tracedesk_ops.firstlook import Line, Question
-from tracedesk_ops.recalls.desk import Desk
 from tracedesk_ops.recalls.recall import Recall
 from tracedesk_ops.recalls.tables import tables_of
 
@@ -44,10 +43,6 @@ class Asked(Protocol):
     @property
     def last(self) -> pathlib.Path:
         """A copy of the running desk's file."""
-
-    @property
-    def url(self) -> str:
-        ...
 
     def named_files(self) -> dict[str, pathlib.Path]:
         ...
@@ -91,7 +86,7 @@ def state_of(world: World) -> dict[pathlib.Path, tuple[bytes, int]]:
 def copied(line: Asked, folder: pathlib.Path) -> list[Word]:
     """A copy of a line's archives in a folder of this name, and the words of a recall over it."""
     shutil.copytree(line.folder / "sealed", folder / "sealed")
-    return ["--line", line.name, line.url, folder]
+    return ["--line", line.name, folder]
 
 
 def minutes_of(file: pathlib.Path) -> dict[tuple[str, str], str]:
@@ -100,12 +95,24 @@ def minutes_of(file: pathlib.Path) -> dict[tuple[str, str], str]:
     return {(board, name): str(catalogue.spelled(minute)) for board, name, minute in found}
 
 
+class Meanwhile(chains.Asker):
+    """tracedesk-chain, while something happens."""
+
+    def __init__(self, program: str, words: list[str], meanwhile: Callable[[], Any]) -> None:
+        super().__init__(program, words)
+        self.meanwhile = meanwhile
+
+    def ask(self, *words: Any) -> Any:
+        self.meanwhile()
+        return super().ask(*words)
+
+
 class Asking:
     """Asks the tool for names, in this process, and the program for reports of each file."""
 
     def __init__(self, lines: Sequence[Asked], room: pathlib.Path) -> None:
         self.lines, self.room, self.program = lines, room, lines[0].program
-        self.asked = [Line(line.name, line.url, line.folder) for line in lines]
+        self.asked = [Line(line.name, line.folder) for line in lines]
         self.files = [
             (line.name, name, file) for line in lines for name, file in line.named_files().items()
         ]
@@ -121,14 +128,10 @@ class Asking:
     def begun(self, kind: str, name: str, lines: int, meanwhile: Callable[[], Any]) -> Any:
         """A recall over the first so many lines, during which something happens."""
         question = Question(kind, name)
-
-        def desk_of(line: Any) -> Any:
-            meanwhile()
-            return Desk(line, None, None)
-
-        asker = chains.Asker(str(self.program), question.words(self.room))
-        its = Recall(question, self.asked[:lines], desk_of, asker)
-        its.ask()
+        asker = Meanwhile(str(self.program), question.words(self.room), meanwhile)
+        with files.Room() as room:
+            its = Recall(question, self.asked[:lines], asker, pathlib.Path(room))
+            its.ask()
         return its
 
     def tables(self, kind: str, name: str) -> Tables:
@@ -210,15 +213,12 @@ def expect_boards(tables: Tables) -> None:
     assert [row["board"] for row in tables["boards"]] == sorted(pieces)
     for row in tables["boards"]:
         own = pieces[row["board"]]
-        minutes = sorted(it["minute"] for it in own if it["minute"])
-        lines = {it["line"] for it in own}
-        # else a running desk may have placed the first
-        has_first = {it["line"] for it in own if it["minute"]} == lines
+        minutes = sorted(it["minute"] for it in own)
         wanted = {
             "pieces": str(len(own)),
-            "first_minute": minutes[0] if has_first else "",
-            "last_minute": minutes[-1] if len(minutes) == len(own) else "",
-            "line": "; ".join(sorted(lines)),
+            "first_minute": minutes[0],
+            "last_minute": minutes[-1],
+            "line": "; ".join(sorted({it["line"] for it in own})),
             "overdue": "yes" if any(it["overdue"] == "yes" for it in own) else "no",
         }
         assert {name: row[name] for name in wanted} == wanted, row["board"]

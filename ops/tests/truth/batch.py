@@ -11,9 +11,9 @@ from unittest import mock
 
 from lab.tools import Ended, run_tool
 from tracedesk import desk as desks
-from tracedesk_ops import catalogue, chains, collecting, doubts, firstlook, untraced
-from tracedesk_ops.firstlook import Line, Question, ReelLeft
-from tracedesk_ops.recalls.desk import Desk
+from tracedesk_ops import around, catalogue, chains, collecting, doubts, files, firstlook, untraced
+from tracedesk_ops.line import LineFolder
+from tracedesk_ops.firstlook import Line, Question
 from tracedesk_ops.recalls.recall import Recall
 from truth.run import ROUNDS, SETTLE, SLOTS, Run
 from truth.world import BEGIN, Clock, Killed, Killer, Place
@@ -22,13 +22,6 @@ LINE = "L1"
 TABLES = ("pieces", "untraced", "doubtful")
 COMMANDS_OF = """SELECT number, own, effective, command FROM accepted
     WHERE command LIKE ? AND command NOT LIKE 'SheetDefined%'"""
-
-
-class Asking(Desk):
-    """A running desk, which isn't asked what is left."""
-
-    def stock(self, *_: object) -> Iterator[ReelLeft]:
-        return iter(())
 
 
 def wrong(run: Run, answer_of: Callable[[str], Any]) -> Iterator[str]:
@@ -178,14 +171,15 @@ class Batch:
     def compare(self) -> None:
         """Asks for each lot of each run. The desk stands still by now, so what is the same for all
         of them is looked at once."""
-        self.line = Line(LINE, self.place.url, self.place.folder)
+        self.line = Line(LINE, self.place.folder)
         self.chain = AskedOnce(str(self.place.program))
         looked = LookedOnce()
         with contextlib.ExitStack() as held:
-            database = held.enter_context(doubts.copied(self.place.file))
+            self.room = pathlib.Path(held.enter_context(files.Room()))
+            desk = around.survey(LineFolder(self.place.folder), LINE, room=self.room)
             for owner, name, its in (
                 (firstlook, "at", told_by_sql(firstlook.at)),
-                (doubts, "copied", lambda _: contextlib.nullcontext(database)),
+                (around, "survey", lambda *_, **__: desk),
                 (doubts, "look", looked),
             ):
                 held.enter_context(mock.patch.object(owner, name, its))
@@ -206,8 +200,9 @@ class Batch:
     def answer_of(self, lot: str) -> Any:
         """What tracedesk-recall says of a lot, in this process."""
         question = Question("lot", lot)
-        told = Recall(question, [self.line], lambda line: Asking(line, None, None), self.chain)
-        told.ask()
+        with files.Room() as room:
+            told = Recall(question, [self.line], self.chain, pathlib.Path(room))
+            told.ask()
         faults = told.faults + told.breaks + told.doubts
         assert not faults, f"a recall of {lot}: {faults}"
         return told
@@ -248,16 +243,17 @@ class Batch:
     def show(self, run: Run, its: Any) -> None:
         """Prints what the files have of a run's machine, what was refused, and what really
         happened."""
-        files = {
+        archives = {
             archive.file: catalogue.path_of(self.place.folder, archive)
             for archive in self.place.archives()
         }
         print(f"--- {run.name}")
         with contextlib.ExitStack() as held:
             databases = {
-                name: held.enter_context(catalogue.opened(file)) for name, file in files.items()
+                name: held.enter_context(catalogue.opened(file)) for name, file in archives.items()
             }
-            databases[catalogue.RUNNING] = held.enter_context(doubts.copied(self.place.file))
+            desk = held.enter_context(catalogue.opened(self.room / catalogue.RUNNING))
+            databases[catalogue.RUNNING] = desk
             for name, database in databases.items():
                 for row in database.execute(COMMANDS_OF, [f"%{run.name}\t%"]):
                     minutes = [minute - BEGIN for minute in row[1:3]]

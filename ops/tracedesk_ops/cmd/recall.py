@@ -1,29 +1,28 @@
-"""Recalls lots, a board or reels over the running desks of lines and all sealed files behind them.
+"""Recalls lots, a board or reels over the desks of lines and all sealed files behind them.
 
 usage: tracedesk-recall lot NAME.. [--part PART] [OPTION]..
        tracedesk-recall board NAME [OPTION]..
        tracedesk-recall reel NAME.. [OPTION]..
        tracedesk-recall where ATTRIBUTE=VALUE.. [OPTION]..
-options:                [--line LINE URL FOLDER].. [--lines FILE]
+options:                [--line LINE FOLDER].. [--lines FILE]
                         [--show TABLE] [--shipped FILE] [--customer NAME] [--html FILE] [--evidence
-                        FOLDER] [--key FILE | --unsigned] [--cacert FILE] [--netrc FILE]
+                        FOLDER] [--key FILE | --unsigned]
 
 examples:
   tracedesk-recall lot L-77            of the lines that are set up on this machine, by
                                        /etc/tracedesk/LINE.conf
   tracedesk-recall lot L-77 L-78 --part CAP-100N
   tracedesk-recall where date_code=2614 part=CAP-100N
-  tracedesk-recall lot L-77 --line L1 http://127.0.0.1:8080 /var/lib/tracedesk/L1
+  tracedesk-recall lot L-77 --line L1 /var/lib/tracedesk/L1
   tracedesk-recall lot L-77 --lines lines.csv --shipped shipped.csv --evidence L-77 > boards.csv
-  tracedesk-recall board SN-117 --line L1 - /mirror/L1      a mirror, without what came since
+  tracedesk-recall board SN-117 --line L1 /mirror/L1        a mirror, without what came since
   tracedesk-recall reel K-01 --lines lines.csv --show reels
 
-tracedesk-chain reads a line's archives, once the checksum of each is that of its line, and answers
-only if they are a chain. Each file names the archive from which its desk was begun, and the running
-desk is asked for that too, by a message that it always refuses. So a missing archive, or a URL of
-another desk, is reported. Standard error says who could not be asked, and why: then the answer may
-lack boards. tracedesk-chain is the one next to tracedesk, or that of CHAIN in the environment.
-Archives are copied for it into TMPDIR.
+A line is its folder. tracedesk-chain reads its sealed files, once the checksum of each is that of
+its name, and a copy of its desk as it is now. It answers only if they are a chain: each file names
+the one from which it was begun. So a missing file is reported. Standard error says what could not
+be asked, and why: then the answer may lack boards. tracedesk-chain is the one next to tracedesk, or
+that of CHAIN in the environment. Meanwhile copies of all of them lie in TMPDIR.
 
 A lot is only its name: --part PART leaves out other parts that came in a lot of that name. A reel
 that changed lines is followed under its other names. ATTRIBUTE is reel, part, lot, date_code,
@@ -31,18 +30,17 @@ supplier, maker_part or order, as tracedesk-reels keeps them. If it is named twi
 of the values. A reel whose attributes nobody gave may be one of them: it is named, and the status
 is 3.
 
---line          a line's name, the URL of its running desk, and the line's folder. With `-` for a
-                URL the newest sealed file stands for the desk, and the answer is not complete. Of
-                a line on another computer name a mirror of its folder
---lines FILE    the same of several lines: a CSV file of the header line,url,folder; paths are
-                from its folder on
+--line          a line's name, and its folder. Of a line on another computer name a mirror of it:
+                its newest sealed file stands for the desk, and the answer is not complete
+--lines FILE    the same of several lines: a CSV file of the header line,folder; paths are from its
+                folder on
 --show TABLE    the table to print as CSV; without it pieces of a board, and boards of a lot or reel
   boards        of each board its pieces, the first and last minute, the lines, overdue, and the
                 files they lie in
   pieces        each piece: line, file, designator, part, lot, reel, machine, slot, overdue, and
                 when it was placed
   reels         of the lot or reel the pieces left, in stock or mounted, and the minute
-  asked         the desks and archives: which were asked, and why the others were not
+  asked         the files: which were asked, and why the others were not
   untraced      work that the desks refused, on any reel: its pieces are in no trace; with the
                 decisions about it
   doubtful      pieces of the lot, reel or board that may be of another reel: a load, splice or
@@ -52,16 +50,13 @@ is 3.
                  also those that hold no
                 piece, and nothing of other boards; a serial that no line knows makes it incomplete
 --html FILE     one page to print, with all of it
---evidence FOLDER  all of it as CSV and HTML, the desks' answers, a certificate, checksums and a
+--evidence FOLDER  all of it as CSV and HTML, the program's answers, a certificate, checksums and a
                    signature: tracedesk-verify verifies it
 --key FILE      the private key that signs the evidence, as ssh-keygen makes it; without it the
                 `key` of the line's set-up file
 --unsigned      the evidence is not signed, and its certificate says so
---cacert FILE   the certificate of an https URL, or of its signer
---netrc FILE    the users and passwords of the URLs
 
-FILE of --html and FOLDER must not be there yet. Each gets its name once it is whole. A running desk
-reports no minutes, and lists no reels of a lot: its file in the line's folder has both.
+FILE of --html and FOLDER must not be there yet. Each gets its name once it is whole.
 
 Exit status: 0 all were asked; 1 all were asked, and none knows the name; 2 bad command line, or a
 list that can't be read; 3 not all were asked, the archives are no chain, pieces are counted twice,
@@ -73,13 +68,11 @@ from __future__ import annotations
 import argparse
 import os
 import pathlib
-from collections.abc import Callable
 
 from tracedesk_ops import catalogue, chains, files, places, plant
 from tracedesk_ops.firstlook import Line, Question
 from tracedesk_ops.recalls import customers, sets, signing, words
 from tracedesk_ops.recalls.certificate import bytes_of, programs
-from tracedesk_ops.recalls.desk import Desk
 from tracedesk_ops.recalls.evidence import LISTED, evidence, listing, write_beside, write_evidence
 from tracedesk_ops.recalls.recall import Recall
 from tracedesk_ops.recalls.tables import Shipped, Table, page, tables_of
@@ -103,12 +96,7 @@ def listed_in(room: pathlib.Path, question: Question) -> pathlib.Path:
     return path
 
 
-def asked(
-    asks: argparse.Namespace,
-    lines: list[Line],
-    desk_of: Callable[[Line], Desk],
-    room: pathlib.Path,
-) -> Recall:
+def asked(asks: argparse.Namespace, lines: list[Line], room: pathlib.Path) -> Recall:
     """The recall of all lines."""
     its = sets.question_of(asks.kind, asks.names, asks.part or "", lines)
     if not its.question.names():
@@ -116,7 +104,7 @@ def asked(
             plant.tell(text)
         words.stop(f"no reel is one of {its.question.name}", 3 if its.faults else 1)
     chain = chains.Asker(asks.program, its.question.words(listed_in(room, its.question)))
-    recall = Recall(its.question, lines, desk_of, chain)
+    recall = Recall(its.question, lines, chain, room)
     recall.faults += its.faults
     recall.notes += its.notes
     recall.ask()
@@ -127,15 +115,13 @@ def asked(
 
 def answer(asks: argparse.Namespace, room: pathlib.Path) -> int:
     try:
-        lines, users, key = words.lines_of(asks), words.users_of(asks.netrc), words.key_of(asks)
+        lines, key = words.lines_of(asks), words.key_of(asks)
     except (plant.Fault, OSError, RuntimeError, ValueError) as fault:
-        # of a path: links in a circle, a character that none has; of a URL
+        # of a path: links in a circle, a character that none has
         words.stop(f"the lines can't be read: {fault}")
-    context = words.context_of(asks.cacert, lines)
-    words.want_secrets_kept(lines, users)
     shipped = words.shipped_of(asks.shipped) if asks.shipped else None
     os.nice(NICE)
-    recall = asked(asks, lines, lambda line: Desk(line, context, users), room)
+    recall = asked(asks, lines, room)
     if not asks.line and not asks.lines:
         recall.notes.append(
             f"by the files of {places.FOLDER} the lines are {', '.join(it.name for it in lines)}:"

@@ -13,7 +13,7 @@ import subprocess
 from collections.abc import Iterable, Iterator
 from typing import Any, NamedTuple
 
-from tracedesk_ops import __version__, files, plant
+from tracedesk_ops import __version__, catalogue, files, plant
 from tracedesk_ops.firstlook import Line
 from tracedesk_ops.recalls.recall import Recall
 from tracedesk_ops.recalls.tables import Table
@@ -92,18 +92,17 @@ def certificate(
 
 
 def line_of(recall: Recall, number: int, line: Line) -> dict[str, Any]:
-    """What was asked of a line. `chain` is the answer of tracedesk-chain; without it its archives
-    were looked at by SQL alone.
+    """What was asked of a line. `chain` is the answer of tracedesk-chain, with the checksum of what
+    it says of sealed files; without it its files were looked at by SQL alone.
     """
     told: dict[str, Any] = {
         "line": line.name,
-        "running_desk": {"url": line.url, "file": f"desk-{number}.txt"} if line.url else None,
         "folder": str(line.folder),
         "chain": None,
     }
     marks: dict[str, str] = {}
     if proof := recall.proofs.get(line.name):
-        sha256 = hashlib.sha256(bytes_of(proof.text)).hexdigest()
+        sha256 = hashlib.sha256(bytes_of(proof.without(catalogue.RUNNING))).hexdigest()
         said = recall.chain.words if recall.chain else []
         words = [LISTED if word.endswith(f"/{LISTED}") else word for word in said]
         told["chain"] = {"words": words, "file": f"chain-{number}.csv", "sha256": sha256}

@@ -6,7 +6,7 @@ import html
 import sqlite3
 from collections.abc import Iterable
 
-from tracedesk_ops import catalogue, copies, plant
+from tracedesk_ops import catalogue, copies
 from tracedesk_ops.recalls import certificate, evidence, tables, wording
 from tracedesk_ops.recalls.certificate import ProgramFile, bytes_of
 from tracedesk_ops.recalls.recall import Recall
@@ -27,16 +27,13 @@ def serials_of(shipped: Shipped, customer: str) -> dict[str, str]:
 
 
 def unknown(recall: Recall, serials: Iterable[str]) -> set[str]:
-    """The serials that no file and no running desk of the lines knows."""
+    """The serials that no file of the lines knows."""
     left = set(serials)
     for line in recall.lines:
-        for archive in recall.own(line) if left else ():
+        for archive in recall.files[line.name] if left else ():
             with contextlib.suppress(OSError, sqlite3.Error):
                 with catalogue.opened(catalogue.path_of(line.folder, archive)) as database:
                     left -= {its for its in left if copies.rows(database, KNOWN, its)}
-    for desk in recall.desks.values():
-        with contextlib.suppress(plant.Fault):
-            left -= {its for its in left if desk.rows("/trace/board", 1, board=its) is not None}
     return left
 
 
@@ -97,7 +94,6 @@ def contents(
         told[name] = [wording.readable(text) for text in told[name]]
     told["twice"] = ["pieces are there twice in these lines' files"] if recall.doubts else []
     for line in told["lines"]:
-        line["running_desk"] = bool(line["running_desk"])
         line["folder"] = None
         for archive in line["archives"]:
             archive["why"] = wording.readable(archive["why"])

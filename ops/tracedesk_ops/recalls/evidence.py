@@ -102,10 +102,6 @@ def evidence(
     for number, line in enumerate(recall.lines, 1):
         if line.name in recall.proofs:
             contents[f"chain-{number}.csv"] = bytes_of(recall.proofs[line.name].text)
-        if line.url:
-            answers = recall.desks[line.name].answers
-            text = "".join(f"GET {target}\n{answer}\n" for target, answer in answers)
-            contents[f"desk-{number}.txt"] = bytes_of(text)
     if shipped:
         contents["shipped.csv"] = read_once(shipped)
     return contents

@@ -1,13 +1,11 @@
-"""A recall: a lot, reel or board is asked of the running desks and of all archives."""
+"""A recall: a lot, reel or board is asked of all files of lines, and of no running desk."""
 from __future__ import annotations
 
 import concurrent.futures
-import contextlib
 import datetime
-import functools
 import os
+import pathlib
 import sqlite3
-from collections.abc import Callable
 from typing import NamedTuple
 
 from tracedesk_ops import (
@@ -22,11 +20,13 @@ from tracedesk_ops import (
 )
 from tracedesk_ops.firstlook import Line, Piece, Question, ReelLeft, Told
 from tracedesk_ops.line import LineFolder
-from tracedesk_ops.recalls.desk import RUNNING, Desk
+
+
+RUNNING = catalogue.RUNNING
 
 
 class About(NamedTuple):
-    """A desk or an archive that is asked."""
+    """A file that is asked."""
 
     line: str
     file: str
@@ -36,7 +36,7 @@ class About(NamedTuple):
 
 
 class Asked(NamedTuple):
-    """What came of asking a desk or an archive; `why` is empty if it was asked."""
+    """What came of asking a file; `why` is empty if it was asked."""
 
     line: str
     file: str
@@ -58,16 +58,14 @@ Wait = tuple[catalogue.Archive, "concurrent.futures.Future[Told]"]
 
 class Recall:
     """A question with what all told: `faults` are why some were not asked, `breaks` which archives
-    are no chain, `doubts` what is told twice, `notes` what a reader has to know besides."""
+    are no chain, `doubts` what is told twice, `notes` what a reader has to know besides. Copies of
+    the running desks are made in `room`.
+    """
 
     def __init__(
-        self,
-        question: Question,
-        lines: list[Line],
-        desk_of: Callable[[Line], Desk],
-        chain: chains.Asker,
+        self, question: Question, lines: list[Line], chain: chains.Asker, room: pathlib.Path
     ) -> None:
-        self.question, self.lines, self.desk_of, self.chain = question, lines, desk_of, chain
+        self.question, self.lines, self.chain, self.room = question, lines, chain, room
         self.minute = datetime.datetime.now(datetime.timezone.utc)
         self.known = False
         self.pieces: list[Piece] = []
@@ -77,9 +75,8 @@ class Recall:
         self.breaks: list[str] = []
         self.doubts: list[str] = []
         self.notes: list[str] = []
-        self.surveys: dict[str, around.Survey] = {}  # by line
+        self.files: dict[str, list[catalogue.Archive]] = {}  # by line, from the oldest on
         self.stamps: dict[str, tuple[set[str], set[str]]] = {}  # of the files, as they were before
-        self.desks: dict[str, Desk] = {}  # by line
         self.proofs: dict[str, chains.Answer] = {}  # by line
         self.untraced: list[list[str]] = []
         self.doubtful: list[list[str]] = []
@@ -100,8 +97,7 @@ class Recall:
                 and not any(future.exception() for _, future in its)
             }
         for line in self.lines:
-            self.running(line, self.archives(line, waits[line], proofs.get(line)))
-        for line in self.lines:
+            self.answered(line, waits[line], proofs.get(line))
             if around.stamp(line_of(line)) != self.stamps[line.name]:
                 self.faults.append(
                     f"{line.folder}: its files were changed meanwhile, as by a roll-over or a"
@@ -115,66 +111,54 @@ class Recall:
         self.note()
 
     def begin(self, line: Line, threads: concurrent.futures.ThreadPoolExecutor) -> list[Wait]:
-        """Asks the archives of a line: pairs of the archive and what will be told, in the order of
-        their chain.
+        """Asks the files of a line: pairs of the file and what will be told, in the order of their
+        chain.
         """
         self.survey(line)
-        own = self.own(line)
-        if not line.url:
-            until = f" that came after {own[-1].file}" if own else ""
-            self.faults.append(
-                f"{line.name}: its running desk is not asked, since its URL is `-`: pieces{until}"
-                " are not in the answer"
-            )
         return [
-            (archive, threads.submit(firstlook.at, line, archive, self.question, False))
-            for archive in own
+            (file, threads.submit(firstlook.at, line, file, self.question, False))
+            for file in self.files[line.name]
         ]
 
-    def own(self, line: Line) -> list[catalogue.Archive]:
-        """The sealed files that are asked, each behind the one from which it was begun. Without a
-        running desk its newest copy is one of them.
-        """
-        its = self.surveys[line.name]
-        return [*its.archives, *([its.last] if its.last and not line.url else [])]
-
     def survey(self, line: Line) -> None:
-        """Looks at a line's folder: what nobody asks, or can ask, is a fault."""
-        self.stamps[line.name] = around.stamp(line_of(line))
-        survey = around.survey(line_of(line), line.name)
-        if survey.last and line.url and self.went_on(line, survey.last):
-            survey = survey._replace(archives=[*survey.archives, survey.last], last=None)
-        self.surveys[line.name] = survey
+        """Looks at a line's folder: what nobody asks, or can ask, is a fault. The files that are
+        asked are the sealed ones, each behind the one from which it was begun, and the desk as it
+        is now. Without a desk its newest copy is one of them.
+        """
+        its, room = line_of(line), self.room / str(len(self.files))
+        room.mkdir()
+        self.stamps[line.name] = around.stamp(its)
+        survey = around.survey(its, line.name, room=room)
+        newest = survey.desk or survey.last
+        self.files[line.name] = [*survey.archives, *([newest] if newest else [])]
         self.faults += survey.faults
+        until = f" that came after {newest.file}" if newest else ""
         if not line.folder.is_dir():
             self.faults.append(f"{line.folder}: there is no such folder: mount its disk")
-        elif not survey.archives:
+        elif not its.desk.exists():
+            self.faults.append(
+                f"{line.name}: {line.folder} has no desk: pieces{until} are not in the answer. Ask"
+                " on the desk's machine"
+            )
+        elif survey.desk and not plant.is_open(its.desk):
+            self.faults.append(
+                f"{line.name}: no desk of this machine has {its.desk} open: pieces that came since"
+                " are not in the answer. Start its service, or ask on the desk's machine"
+            )
+        if not survey.archives:
             self.notes.append(f"{line.name}: no archives yet in {line.folder}")
 
-    def went_on(self, line: Line, file: catalogue.Archive) -> bool:
-        """Whether the running desk was begun from a file. The folder says so itself if the desk's
-        file is at hand.
-        """
-        if line_of(line).desk.exists():
-            return False
-        desk = self.desks.setdefault(line.name, self.desk_of(line))
-        with contextlib.suppress(plant.Fault):
-            return desk.has(model.first_uid(file.sha256))
-        return False
-
-    def archives(
+    def answered(
         self, line: Line, waits: list[Wait], proof: concurrent.futures.Future[chains.Answer] | None
-    ) -> list[catalogue.Archive]:
-        """Takes what the archives of a line told; returns those that were asked, from the oldest
-        on.
-        """
+    ) -> None:
+        """Takes what the files of a line told, from the oldest on."""
         told: dict[catalogue.Archive, Told] = {}
         ends: list[chains.End] = []
-        for archive, future in waits:
+        for file, future in waits:
             try:
-                told[archive] = future.result()
+                told[file] = future.result()
             except catalogue.CatalogueError as fault:
-                self.miss(self.about(line, archive), fault)
+                self.miss(self.about(line, file), fault)
         if proof:
             try:
                 ends = self.proved(line, told, proof.result())
@@ -182,22 +166,29 @@ class Recall:
                 self.refused(line, list(told), fault)
         if not ends:  # the others are asked all the same, where one is missing
             told = {it: firstlook.at(line, it, self.question) for it in told}
-        for archive, its in told.items():
-            self.take(self.about(line, archive), its)
-        return [
-            it._replace(commands=end.commands, last_minute=end.minute)
-            for it, end in zip(told, ends)
-        ] or list(told)
+        for file, its in told.items():
+            self.take(self.about(line, file), its)
+        if told:
+            self.left_over(line, list(told)[-1])
+
+    def left_over(self, line: Line, newest: catalogue.Archive) -> None:
+        """Takes what is left of the lot or reel by the newest file."""
+        minute = None if newest.file == RUNNING else newest.last_minute
+        try:
+            with catalogue.opened(catalogue.path_of(line.folder, newest)) as database:
+                self.reels += firstlook.left_in(database, line, self.question, minute)
+        except sqlite3.Error as fault:
+            self.faults.append(f"{line.name}: {newest.file}: {fault}")
 
     @staticmethod
-    def about(line: Line, archive: catalogue.Archive) -> About:
-        """The archive of a line as it is told of."""
+    def about(line: Line, file: catalogue.Archive) -> About:
+        """A file of a line as it is told of."""
         return About(
             line.name,
-            archive.file,
-            archive.sha256,
-            catalogue.spelled(archive.first_minute),
-            catalogue.spelled(archive.last_minute),
+            file.file,
+            file.sha256,
+            catalogue.spelled(file.first_minute),
+            catalogue.spelled(file.last_minute),
         )
 
     def proved(
@@ -235,85 +226,22 @@ class Recall:
             )
         else:
             self.faults.append(
-                f"{line.name}: its {len(archives)} archives were looked at by SQL alone, since"
+                f"{line.name}: its {len(archives)} files were looked at by SQL alone, since"
                 f" tracedesk-chain gives no answer: {fault}"
             )
-
-    def running(self, line: Line, archives: list[catalogue.Archive]) -> None:
-        """Asks the running desk of a line, and what is left of the lot or reel; without it that is
-        as the newest archive says.
-        """
-        held: list[ReelLeft] = []
-        try:
-            for it in archives[-1:]:
-                with catalogue.opened(catalogue.path_of(line.folder, it)) as database:
-                    held = firstlook.left_in(database, line, self.question, it.last_minute)
-        except sqlite3.Error as fault:
-            self.faults.append(f"{line.name}: {it.file}: {fault}")
-        left = self.ask_desk(line) if line.url else None
-        self.reels += held if left is None else left
-
-    def ask_desk(self, line: Line) -> list[ReelLeft] | None:
-        """Asks a running desk; what is left of the reels by its file, if that is at hand."""
-        about = About(line.name, RUNNING)
-        desk = self.desks.setdefault(line.name, self.desk_of(line))
-        newest = next(reversed(self.own(line)), None)
-        try:
-            self.faults += desk.want_line(newest)
-            told = desk.pieces_of(self.question)
-        except plant.Fault as fault:
-            self.miss(about, fault)
-            return None
-        left: list[ReelLeft] | None = None
-        try:
-            if its := self.by_its_file(line, desk, newest, told):
-                told, left = its
-            elif told.known and self.question.kind != "board":
-                self.faults.append(
-                    f"{line.name}: what is left of it is told as of the newest archive, since the"
-                    " running desk's file is not at hand"
-                )
-        except (plant.Fault, catalogue.CatalogueError) as fault:
-            self.faults.append(
-                f"{line.name}: what is left of it is told as of the newest archive: {fault}"
-            )
-        self.take(about, told)
-        return left if told.known and self.question.kind != "board" else None
-
-    def by_its_file(
-        self, line: Line, desk: Desk, newest: catalogue.Archive | None, told: Told
-    ) -> tuple[Told, list[ReelLeft]] | None:
-        """What a running desk told, with the minutes of the pieces, and what is left of the reels,
-        by its file; None if that is not at hand.
-        """
-        file = line_of(line).desk
-        with contextlib.suppress(OSError), doubts.copied(file) as database:
-            if not doubts.why_not(file, database, [newest] if newest else [], desk.has):
-                left = firstlook.left_in(database, line, self.question)
-                timed = firstlook.with_minutes(database, told.pieces)
-                return Told(told.known or bool(left), timed), left
-        return None
 
     def look_for_untraced(self, line: Line) -> None:
         """What is around a line's files: work that a desk refused, what was decided about it, and
         the pieces of the question that may be of another reel.
         """
-        name, has = line.name, functools.partial(self.has, line) if line.url else None
-        its = doubts.look(line.folder, self.own(line), bool(line.url), has)
+        name = line.name
+        its = doubts.look(line.folder, self.files[name])
         self.faults += its.faults
         for it, by, reels in its.works:
             said = untraced.said(it)[2:9]
             self.untraced.append([name, *said, it.id, reels, *untraced.outcome(by)])
         pieces = its.tapes.concerning(self.question, its.pieces)
         self.doubtful += [[name, *it.row()] for it in pieces]
-
-    def has(self, line: Line, uid: str) -> bool | None:
-        """Whether the running desk of a line has a UniqueID; None if it gives no answer, which is a
-        fault by then.
-        """
-        with contextlib.suppress(plant.Fault):
-            return self.desks[line.name].has(uid)
-        return None
 
     def undecided(self) -> list[list[str]]:
         return [row for row in self.untraced if not row[-2]]
@@ -358,8 +286,8 @@ class Recall:
                 lines.setdefault((it.board, it.designator, it.reel), set()).add(it.line)
         if both := next((sorted(those) for those in lines.values() if len(those) > 1), None):
             self.doubts.append(
-                f"the running desks of {' and '.join(both)} have the same pieces: both URLs lead to"
-                " one desk"
+                f"the running desks of {' and '.join(both)} have the same pieces: one of them is a"
+                " copy"
             )
 
     def note(self) -> None:
@@ -373,11 +301,6 @@ class Recall:
             self.notes.append(
                 f"the {kind} {name} is known, and no piece "
                 + ("is placed on it" if kind == "board" else "of it is placed")
-            )
-        if any(it.minute is None for it in self.pieces):
-            self.notes.append(
-                "a piece that lies in a running desk has no minute here, since the desk's file is"
-                " not at hand: it was placed after the line's last archive"
             )
 
     def status(self) -> int:

@@ -11,7 +11,7 @@ import sqlite3
 from collections.abc import Iterable, Iterator, Sequence
 from typing import NamedTuple
 
-from tracedesk_ops import around, attributes, catalogue, copies, doubts, heads, sealed, stored
+from tracedesk_ops import around, attributes, catalogue, copies, heads, sealed, stored
 from tracedesk_ops.line import LineFolder
 from tracedesk_ops.firstlook import Line, Question
 
@@ -137,20 +137,21 @@ class Meant(NamedTuple):
 
 
 def files_of(line: Line) -> Iterator[tuple[pathlib.Path, bool]]:
-    """The archives of a line, and the running desk's file."""
-    survey = around.survey(LineFolder(line.folder), line.name, sealed.named)
-    is_here = LineFolder(line.folder).desk.exists()
-    last = [survey.last] if survey.last and not is_here else []
+    """The files of a line, and whether it is that of the running desk."""
+    its = LineFolder(line.folder)
+    survey = around.survey(its, line.name, sealed.named)
+    last = [survey.last] if survey.last and not its.desk.exists() else []
     for archive in (*survey.archives, *last):
         yield catalogue.path_of(line.folder, archive), False
-    if line.url:
-        yield LineFolder(line.folder).desk, True
+    if its.desk.exists():
+        yield its.desk, True
 
 
 @contextlib.contextmanager
 def opened(file: pathlib.Path, is_running: bool) -> Iterator[sqlite3.Connection]:
-    with doubts.copied(file) if is_running else catalogue.opened(file) as database:
-        yield database
+    with contextlib.ExitStack() as held:
+        desk = held.enter_context(around.desk_now(file)) if is_running else None
+        yield held.enter_context(catalogue.opened(desk.path if desk else file))
 
 
 def title(kind: str, names: Sequence[str], part: str) -> str:

@@ -20,9 +20,7 @@ def spelled(minute: int | None) -> str:
 
 
 def boards_table(recall: Recall, shipped: Shipped | None) -> Table:
-    """A row for each board. If a piece in a running desk has no minute, the last minute is empty,
-    and the first where all pieces of a line do.
-    """
+    """A row for each board."""
     boards: dict[str, list[Piece]] = {}
     for it in recall.pieces:
         boards.setdefault(it.board, []).append(it)
@@ -36,20 +34,13 @@ def boards_table(recall: Recall, shipped: Shipped | None) -> Table:
 
 
 def board_row(board: str, pieces: list[Piece]) -> list[Any]:
-    minutes = [it.minute for it in pieces if it.minute is not None]
-    first, last = (min(minutes), max(minutes)) if minutes else (None, None)
-    if any(
-        it.minute is None
-        and it.line not in {other.line for other in pieces if other.minute is not None}
-        for it in pieces
-    ):
-        first = None  # a running desk of another line may have placed a piece before
+    minutes = [it.minute for it in pieces]
     overdue = "yes" if any(it.overdue == "yes" for it in pieces) else "no"
     return [
         board,
         len(pieces),
-        spelled(first),
-        spelled(last if len(minutes) == len(pieces) else None),
+        spelled(min(minutes)),
+        spelled(max(minutes)),
         "; ".join(dict.fromkeys(piece.line for piece in pieces)),
         overdue,
         "; ".join(dict.fromkeys(piece.file for piece in pieces)),
@@ -117,7 +108,7 @@ def page(recall: Recall, tables: dict[str, Table], shipped: Shipped | None, vers
 
 def head_of(recall: Recall) -> str:
     """What a reader has to see first: whether the answer may lack something."""
-    head = f'<p class="whole">All were asked: {len(recall.asked)} desks and archives.</p>'
+    head = f'<p class="whole">All were asked: {len(recall.asked)} files.</p>'
     if recall.faults or recall.breaks:
         head = (
             '<div class="missing">NOT ALL WERE ASKED, or the archives are no chain. The answer may'

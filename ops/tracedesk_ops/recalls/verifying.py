@@ -15,6 +15,8 @@ from tracedesk_ops.recalls import certificate, signing
 from tracedesk_ops.recalls.certificate import LISTED, bytes_of
 from tracedesk_ops.recalls.evidence import Contents, sums_of
 
+RUNNING = catalogue.RUNNING
+
 ROW = re.compile(rb"([0-9a-f]{64})  ([^/\n]+)")
 TABLES = ("boards", "pieces", "reels", "asked", "untraced", "doubtful", "serials")
 TRACE = ("board", "designator", "part", "lot", "reel", "machine", "slot", "overdue")
@@ -81,6 +83,8 @@ def want_pieces(contents: Contents, told: dict[str, Any]) -> None:
     the pieces.
     """
     pieces = rows_of(contents, "pieces")
+    # in evidence of 1.0.0 the running desk told its pieces itself
+    apart = {line["line"] for line in told["lines"] if line.get("running_desk")}
     wanted: list[list[str]] = []
     proved = set()
     for line in told["lines"]:
@@ -93,7 +97,7 @@ def want_pieces(contents: Contents, told: dict[str, Any]) -> None:
     got = [
         [row["line"], row["file"], *(row[name] for name in TRACE)]
         for row in pieces
-        if row["line"] in proved and not row["file"].startswith(catalogue.RUNNING)
+        if row["line"] in proved and not (row["line"] in apart and row["file"] == RUNNING)
     ]
     if sorted(got) != sorted(wanted):
         raise Refused("pieces.csv has not the pieces that tracedesk-chain answered")
@@ -123,13 +127,14 @@ def again(
     if not chain:
         raise chains.NoAnswer("there is no tracedesk-chain next to tracedesk: CHAIN names it")
     for line in told["lines"]:
-        if not line["archives"]:
+        archives = [its for its in line["archives"] if its["file"] != RUNNING]
+        if not archives:
             continue
-        files = [file_of(folders, its["file"], its["sha256"]) for its in line["archives"]]
+        files = [file_of(folders, its["file"], its["sha256"]) for its in archives]
         if not line["chain"]:
             raise Refused(f"{line['line']}: its archives were not asked by tracedesk-chain")
         words = [word_of(word, contents, room) for word in line["chain"]["words"]]
-        digits = [its["sha256"][: model.DIGITS] for its in line["archives"]]
+        digits = [its["sha256"][: model.DIGITS] for its in archives]
         answer = chains.asked(chain, words, files, digits)
         sha256 = hashlib.sha256(bytes_of(answer.text)).hexdigest()
         if sha256 != line["chain"]["sha256"]:

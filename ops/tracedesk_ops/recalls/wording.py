@@ -3,11 +3,10 @@ from __future__ import annotations
 
 import re
 
-URL = re.compile(r"https?://[^\s,;:]+(?::\d+)?(?:/[^\s:,;]*)?")
 NUMBER = re.compile(r"\[Errno \d+\] ")
 PATH = re.compile(r"(?<![\w/.-])/(?:[^\s/:,;]+/)*([^\s/:,;]+)/?")
 
 
 def readable(text: str) -> str:
-    """A message without the paths and addresses of the desk's machine."""
-    return PATH.sub(r"\1", NUMBER.sub("", URL.sub("the running desk", text)))
+    """A message without the paths of the desk's machine."""
+    return PATH.sub(r"\1", NUMBER.sub("", text))

@@ -4,18 +4,13 @@ from __future__ import annotations
 import argparse
 import csv
 import io
-import netrc
 import os
 import pathlib
-import re
-import ssl
 import stat
 import sys
-import urllib.parse
-from collections.abc import Iterable, Iterator, Sequence
+from collections.abc import Iterator, Sequence
 from typing import Any, NoReturn
 
-from tracedesk.desk import checked_url
 from tracedesk_ops import options, places, plant, reader_of
 from tracedesk_ops.firstlook import Line
 from tracedesk_ops.recalls import sets
@@ -37,9 +32,7 @@ def parse(text: str | None) -> argparse.Namespace:
         "names", nargs="+", type=options.identifier, help="its names, or attributes"
     )
     parser.add_argument("--part", type=options.identifier, help="of lots, this part alone")
-    parser.add_argument(
-        "--line", nargs=3, action="append", default=[], metavar=("LINE", "URL", "FOLDER")
-    )
+    parser.add_argument("--line", nargs=2, action="append", default=[], metavar=("LINE", "FOLDER"))
     parser.add_argument(
         "--show", choices=("boards", "pieces", "reels", "asked", "untraced", "doubtful")
     )
@@ -49,8 +42,6 @@ def parse(text: str | None) -> argparse.Namespace:
         ("html", "FILE"),
         ("evidence", "FOLDER"),
         ("key", "FILE"),
-        ("cacert", "FILE"),
-        ("netrc", "FILE"),
     ):
         parser.add_argument(f"--{option}", type=pathlib.Path, metavar=metavar)
     parser.add_argument("--unsigned", action="store_true")
@@ -124,52 +115,40 @@ def lines_of(words: argparse.Namespace) -> list[Line]:
     """The lines that are asked: those of the command line, else those of the set-up files."""
     told = [(pathlib.Path(), *it) for it in words.line]
     if words.lines:
-        rows = rows_of(words.lines, ("line", "url", "folder"))
+        rows = rows_of(words.lines, ("line", "folder"))
         told += [(words.lines.parent, *it) for it in rows]
     if not told:
         told = [
-            (pathlib.Path(), it["line"], it["url"], str(pathlib.Path(it["db"]).parent))
+            (pathlib.Path(), it["line"], str(pathlib.Path(it["db"]).parent))
             for it in options.set_ups()
         ]
     lines: list[Line] = []
     seen: dict[tuple[str, Any], str] = {}
-    for folder, name, url, path in told:
-        it = line_of(folder, name, url, path)
-        for what in ("name", name), ("running desk", desk_of(it, url)), ("folder", it.folder):
+    for folder, name, path in told:
+        it = line_of(folder, name, path)
+        for what in ("name", name), ("folder", it.folder):
             if what in seen:
                 stop(
                     f"the lines {seen[what]} and {name} have the same {what[0]}: each is asked once"
                 )
-            if what[1]:
-                seen[what] = name
+            seen[what] = name
         if not name:
             stop("a line has no name")
         lines.append(it)
     return lines or stop(
-        f"no line is named, and none is set up in {places.FOLDER}: --line NAME URL FOLDER, or"
-        " --lines FILE"
+        f"no line is named, and none is set up in {places.FOLDER}: --line NAME FOLDER, or --lines"
+        " FILE"
     )
 
 
-def line_of(folder: pathlib.Path, name: str, url: str, path: str) -> Line:
+def line_of(folder: pathlib.Path, name: str, path: str) -> Line:
     """A line by its words; the path is from this folder on."""
     if path in ("", "-"):
         stop(f"the line {name} has no folder: name that of its desk")
     at = pathlib.Path(os.path.abspath(folder / path))  # a link stays one, as in each tool
     if not is_folder(at) and at.exists():
         stop(f"{at} is a file: name the folder of the line {name}")
-    return Line(name, "" if url == "-" else url, at)
-
-
-def desk_of(line: Line, url: str) -> tuple[str | None, int, str] | None:
-    """Where the running desk of a line is, if one is asked."""
-    try:
-        return place_of(line.url) if line.url else None
-    except ValueError as fault:
-        stop(
-            f"the running desk of the line {line.name} is no URL, as http://127.0.0.1:8080:"
-            f" {url!r}: {fault}"
-        )
+    return Line(name, at)
 
 
 def is_folder(path: pathlib.Path) -> bool:
@@ -182,26 +161,6 @@ def is_folder(path: pathlib.Path) -> bool:
         return False
 
 
-def place_of(url: str) -> tuple[str | None, int, str]:
-    """Where a URL leads, however it is written; a ValueError if it is none of a desk."""
-    parts = checked_url(url)
-    port = parts.port or (443 if parts.scheme == "https" else 80)
-    return parts.hostname, port, parts.path.rstrip("/")
-
-
-def want_secrets_kept(lines: Iterable[Line], users: netrc.netrc | None) -> None:
-    """Stops where a password would go over a network in plain text."""
-    for it in lines:
-        to = urllib.parse.urlsplit(it.url)
-        host = to.hostname or ""
-        is_here = re.fullmatch(r"localhost|127\..*|::1", host)
-        if users and to.scheme == "http" and users.authenticators(host) and not is_here:
-            stop(
-                f"the running desk of the line {it.name} would have its password in plain text:"
-                f" ask it by https, or leave {host} out of the file of --netrc"
-            )
-
-
 def shipped_of(path: pathlib.Path) -> Shipped:
     shipped: Shipped = {}
     for board, *row in rows_of(path, ("board", "customer", "date")):
@@ -210,27 +169,6 @@ def shipped_of(path: pathlib.Path) -> Shipped:
         if row not in shipped.setdefault(board, []):
             shipped[board].append(row)
     return shipped
-
-
-def users_of(path: pathlib.Path | None) -> netrc.netrc | None:
-    try:
-        return netrc.netrc(path) if path else None
-    except (OSError, UnicodeDecodeError, netrc.NetrcParseError) as fault:
-        stop(f"{path}: it can't be read: {fault}")
-
-
-def context_of(path: pathlib.Path | None, lines: Iterable[Line]) -> ssl.SSLContext | None:
-    """By which certificates https URLs are known; none where no URL is one, since reading them
-    takes time.
-    """
-    try:
-        return (
-            ssl.create_default_context(cafile=path)
-            if path or any(it.url.startswith("https:") for it in lines)
-            else None
-        )
-    except OSError as fault:
-        stop(f"{path}: it is no certificate that can be read: {fault}")
 
 
 def key_of(words: argparse.Namespace) -> pathlib.Path | None:
