@@ -64,7 +64,7 @@ def test_both_programs_run_with_the_c_library_alone(
 
 
 @pytest.mark.parametrize(
-    "unit", ["tracedesk", "tracedesk-watch", "tracedesk-clock", "tracedesk-send@"]
+    "unit", ["tracedesk", "tracedesk-watch", "tracedesk-clock@", "tracedesk-send@"]
 )
 def test_a_unit_is_little_exposed(machine: Machine, unit: str) -> None:
     words = "systemd-analyze security --offline=true --no-pager"

@@ -15,14 +15,24 @@ CLOCK_ALONE = r"""
 mkdir -p /root/idle; rm -f /root/idle/desk*
 tracedesk serve --db /root/idle/desk --port 8090 --connections 9 > /dev/null & at=$!
 for n in $(seq 600); do curl -s http://127.0.0.1:8090/overdue > /dev/null && break; sleep 0.1; done
-at_unit=/run/systemd/system/tracedesk-clock.service.d; mkdir -p $at_unit
+at_unit=/run/systemd/system/tracedesk-clock@desk.service.d; mkdir -p $at_unit
 call='/usr/bin/tracedesk-clock --url http://127.0.0.1:8090 --synced "echo %s"'
 printf '[Service]\nExecStart=\nExecStart=%%s\n' "$call" > $at_unit/tried.conf
 systemctl daemon-reload
-systemctl start tracedesk-clock || systemctl show -P ExecMainStatus tracedesk-clock
-cat /run/tracedesk-clock/answer.json || true
+systemctl start tracedesk-clock@desk || systemctl show -P ExecMainStatus tracedesk-clock@desk
+cat /run/tracedesk-clock/desk.json || true
 kill $at; wait $at || true
-rm -r $at_unit; systemctl daemon-reload; systemctl reset-failed tracedesk-clock || true
+rm -r $at_unit; systemctl daemon-reload; systemctl reset-failed tracedesk-clock@desk || true
+"""
+CLOCK_RUNS = r"""
+at_unit=/run/systemd/system/tracedesk-clock@.service.d; mkdir -p $at_unit
+printf '[Service]\nExecStart=\nExecStart=/bin/true\n' > $at_unit/none.conf
+systemctl unmask --runtime tracedesk-clock.timer; systemctl restart tracedesk
+systemctl is-active tracedesk-clock.timer
+systemctl stop tracedesk
+systemctl is-active tracedesk-clock.timer || true
+systemctl mask --runtime tracedesk-clock.timer; rm -r $at_unit; systemctl daemon-reload
+systemctl start tracedesk
 """
 BY_POSTGRES = r"""
 cd /
@@ -147,17 +157,21 @@ def test_the_watch_sees_a_desk_that_is_stopped(machine: Machine) -> None:
     assert found['tracedesk_watch_source_up{source="reports"}'] == "0"
 
 
-def test_the_idle_clock_is_off_and_tells_a_desk_of_its_own(machine: Machine) -> None:
+def test_the_idle_clock_runs_with_the_desk(machine: Machine) -> None:
+    """Its timer begins and ends with the desk's service, and begins nothing once it is masked."""
+    assert machine.restart(CLOCK_RUNS).split()[-2:] == ["active", "inactive"]
+    assert machine.shell("systemctl is-active tracedesk-clock.timer || true").strip() == "inactive"
+
+
+def test_the_idle_clock_tells_a_desk_of_its_own(machine: Machine) -> None:
     """Where the machine's clock is said to be in sync, and not where it isn't."""
-    enabled = machine.shell("systemctl is-enabled tracedesk-clock.timer || true").strip()
-    assert enabled == "disabled"
     not_sent = machine.shell(CLOCK_ALONE % "no")
     assert "\n3\n" in f"\n{not_sent}" and "Accepted" not in not_sent
-    journal = "journalctl --unit tracedesk-clock --output cat | grep -q 'not in sync'"
+    journal = "journalctl --unit tracedesk-clock@desk --output cat | grep -q 'not in sync'"
     sent = re.search(r"^\{.*", machine.shell(CLOCK_ALONE % "yes"), re.MULTILINE)
     assert sent
     said = json.loads(sent[0])
     assert (said["Answer"], said["Number"]) == ("Accepted", 1)
     assert metrics_of(machine)["tracedesk_clock_commands"] == "1"
-    machine.shell(f"rm /run/tracedesk-clock/answer.json; {journal}")
+    machine.shell(f"rm /run/tracedesk-clock/desk.json; {journal}")
     assert "tracedesk_clock_commands" not in metrics_of(machine)

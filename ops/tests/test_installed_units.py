@@ -13,7 +13,6 @@ from lab import ROOT
 from lab.installed import archives_of, metrics_of
 from lab.machine import ARCHIVE, JSON, URL, Machine, part
 from lab.waits import wait_for
-from test_installed_line import CLOCK_ALONE
 
 pytestmark = [pytest.mark.root, pytest.mark.xdist_group("machine")]
 
@@ -118,13 +117,6 @@ def test_tracedesk_watch(machine: Machine, journal: Callable[[str], None]) -> No
     assert metrics_of(machine)["tracedesk_up"] == "1"
     assert state_of(machine, "tracedesk-watch")[0] == "success"
     journal("tracedesk-watch")
-
-
-def test_tracedesk_clock(machine: Machine, journal: Callable[[str], None]) -> None:
-    """To a desk of its own, as if the machine's clock were in sync."""
-    sent = re.search(r"^\{.*", machine.shell(CLOCK_ALONE % "yes"), re.MULTILINE)
-    assert sent and json.loads(sent[0])["Answer"] == "Accepted"
-    journal("tracedesk-clock")
 
 
 @pytest.fixture
@@ -244,6 +236,27 @@ def test_tracedesk_of(machine: Machine, line: str, journal: Callable[[str], None
     sound(machine, 1)
     assert state_of(machine, f"tracedesk@{LINE}") == ["success", "0"]
     journal(f"tracedesk@{LINE}")
+
+
+def test_tracedesk_clock_of(machine: Machine, line: str, journal: Callable[[str], None]) -> None:
+    """It tells the desk on the line's own port, as if the machine's clock were in sync. Its timer
+    began with the line's service.
+    """
+    unit = f"tracedesk-clock@{LINE}"
+    assert machine.shell(f"systemctl is-active {unit}.timer").strip() == "active"
+    at = f"/run/systemd/system/{unit}.service.d"
+    packaged = (ROOT / "packaging/tracedesk-clock@.service").read_text(encoding="utf-8")
+    (call,) = re.findall("^ExecStart=(.*)$", packaged, re.M)
+    synced = f'[Service]\nExecStart=\nExecStart={call} --synced "echo yes"\n'
+    machine.write(synced, f"{at}/synced.conf")
+    try:
+        machine.shell("systemctl daemon-reload")
+        ran(machine, unit)
+    finally:
+        machine.shell(f"rm -r {at}; systemctl daemon-reload")
+    said = json.loads(machine.shell(f"cat /run/tracedesk-clock/{LINE}.json"))
+    assert said["Answer"] == "Accepted" and said["Number"] > 1
+    journal(unit)
 
 
 def test_tracedesk_line_seal_of(

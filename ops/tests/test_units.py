@@ -11,7 +11,7 @@ PROMETHEUS = ROOT / "packaging/prometheus"
 RULES, TESTS = (PROMETHEUS / f"tracedesk-alerts{its}.yml" for its in ("", "-test"))
 METRIC = re.compile(r"\btracedesk_\w+")
 MOST_EXPOSED = 2.0  # of a unit, by systemd-analyze
-NARROW = ("tracedesk-watch", "tracedesk-clock", "tracedesk-untraced", "tracedesk-send@")
+NARROW = ("tracedesk-watch", "tracedesk-clock@", "tracedesk-untraced", "tracedesk-send@")
 
 
 def alerts() -> set[str]:
@@ -73,6 +73,31 @@ def units(tmp_path_factory: pytest.TempPathFactory) -> list[pathlib.Path]:
 @pytest.mark.needs("systemd-analyze")
 def test_units_have_no_fault(units: list[pathlib.Path]) -> None:
     assert run(["systemd-analyze", "verify", *units]).expect().said == ""
+
+
+@pytest.mark.parametrize(
+    ("desk", "timer"),
+    [
+        ("tracedesk.service", "tracedesk-clock.timer"),
+        ("tracedesk@%i.service", "tracedesk-clock@%i.timer"),
+    ],
+)
+def test_an_idle_clock_begins_and_ends_with_its_desk(desk: str, timer: str) -> None:
+    """And tells that desk: both have the port from the line's set-up file."""
+    desks, timers = (
+        (ROOT / "packaging" / name.replace("%i", "")).read_text().splitlines()
+        for name in (desk, timer)
+    )
+    assert f"Wants={timer}" in desks and f"PartOf={desk}" in timers
+    clock = (ROOT / "packaging/tracedesk-clock@.service").read_text().splitlines()
+    assert "Environment=port=8080" in clock and "EnvironmentFile=-/etc/tracedesk/%i.conf" in clock
+    (call,) = (line for line in clock if line.startswith("ExecStart="))
+    assert " --url http://127.0.0.1:${port} " in call
+    if desk == "tracedesk.service":
+        assert "Unit=tracedesk-clock@desk.service" in timers
+        assert any(line.startswith("ExecStart=") and " --port 8080 " in line for line in desks)
+    else:
+        assert "EnvironmentFile=/etc/tracedesk/%i.conf" in desks
 
 
 @pytest.mark.needs("systemd-analyze")

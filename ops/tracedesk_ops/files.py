@@ -1,6 +1,6 @@
 """Files that several tools write: each is replaced whole, and stays as it was if that fails.
 
-    files.put(pathlib.Path("/run/tracedesk-clock/answer.json"), "{}\\n", 0o644)
+    files.put(pathlib.Path("/run/tracedesk-clock/desk.json"), "{}\\n", 0o644)
 """
 from __future__ import annotations
 

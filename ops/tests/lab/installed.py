@@ -78,6 +78,8 @@ def installed(program: pathlib.Path) -> Iterator[Installed]:
             machine.put(file, f"/root/{file.name}")
         for file in packages.newer:
             machine.put(file, f"/root/new/{file.name}")
+        # what these tests say is of March: the time of this machine would expire each reel
+        machine.shell("systemctl mask --runtime tracedesk-clock.timer")
         differences = {
             block.place: difference(machine, block)
             for block in blocks()

@@ -5,8 +5,8 @@ usage: tracedesk-clock [--url URL] [--synced COMMAND] [--answer FILE] [--drained
                        [--patience SECONDS]
 
 examples:
-  tracedesk-clock                    tracedesk-clock.timer has it done each five minutes, once that
-                                     is switched on
+  tracedesk-clock                    tracedesk-clock.timer has it done each five minutes, while the
+                                     desk runs
   tracedesk-clock --synced 'chronyc -n waitsync 1 0.5 > /dev/null && echo yes'      where the
                                                                                     system's own
                                                                                     flag is not kept
@@ -34,7 +34,7 @@ from tracedesk_ops import catalogue, files, options, places, plant, reader_of, s
 
 URL = f"http://127.0.0.1:{places.PORT}"
 SYNCED = "timedatectl show --property=NTPSynchronized --value"
-ANSWER = pathlib.Path("/run/tracedesk-clock/answer.json")
+ANSWER = pathlib.Path("/run/tracedesk-clock/desk.json")
 SECONDS_FOR_SYNCED = 20
 
 

@@ -53,7 +53,7 @@ from tracedesk_ops import reader_of, sealed_watch, untraced
 
 TO = pathlib.Path("/run/tracedesk-watch/metrics")
 SETUP = pathlib.Path("/etc/tracedesk/station/setup.json")
-CLOCK = pathlib.Path("/run/tracedesk-clock/answer.json")  # ops/tracedesk-clock writes it
+CLOCK = pathlib.Path("/run/tracedesk-clock/desk.json")  # ops/tracedesk-clock writes it
 HEALTH = "https://127.0.0.1/health"
 SECONDS_FOR_A_FILE, SECONDS_FOR_NGINX = 10, 15  # packaging/nginx.conf waits less for the desk
 ANSWERS = 3  # all of them together take as long as so many that take the longest
@@ -229,7 +229,7 @@ class Watch:
             yield from sealed_watch.archives(self.sealed, has)
 
     def clock(self) -> metrics.Samples:
-        """The answer that the idle clock had last, if one is switched on."""
+        """The answer that the idle clock had last, if it is on."""
         if told := read_if_there(self.asked.clock):
             second = second_of(told["UniqueID"], "clock-%Y-%m-%dT%H:%MZ")
             yield "clock_timestamp_seconds", second, {}
