@@ -1,4 +1,5 @@
 // Scans and their answers in words: what was asked, of what, what the desk said, and what to do.
+import { dayAnd } from "./known.js";
 import { said } from "./say.js";
 import { WORDS } from "./scan.js";
 import { TEXTS } from "./words.js";
@@ -29,13 +30,20 @@ export function whatOf(scan) {
   return said(TEXTS.what[actionOf(scan)], values);
 }
 
-/** The machine, the slot and the reel of a scan: what an operator looks for first. */
+/**
+ * The machine, the slot and the reel of a scan: what an operator looks for first; of a clock the
+ * time.
+ */
 export function whereOf(scan) {
   const { Machine: machine, Slot: slot, Product: product } = scan.body;
   const reel = reelOf(scan.body);
   const texts = TEXTS.verdict.where;
-  const text = slot ? (reel ? texts.both : texts.slot) : reel ? texts.reel : texts.product;
-  return said(text, { machine, slot, reel, product });
+  const time = scan.at === null ? "" : dayAnd(scan.at);
+  const text = slot ? (reel ? texts.both : texts.slot)
+    : reel ? texts.reel
+    : product ? texts.product
+              : texts.clock;
+  return said(text, { machine, slot, reel, product, time });
 }
 
 /** What a message is about: its slot, else its reel or its machine. */

@@ -41,6 +41,7 @@ export class ChangeoverScreen {
         ),
         model.lines.length > 1 ? button(texts.selectAll, () => this.selectAll()) : null,
         button(texts.pick, () => this.pick()),
+        button(texts.clock, () => this.setClock(), { class: "away" }),
       ),
       this.said,
     );
@@ -88,6 +89,21 @@ export class ChangeoverScreen {
     for (const { machine } of this.asked() ? this.station.model.lines : []) {
       await this.station.act("SELECT", { machine, product: this.product });
     }
+  }
+
+  /**
+   * Sets the desk's clock, which only messages move, once somebody with a badge has looked at the
+   * time: the desk never goes back.
+   */
+  setClock() {
+    const { station } = this;
+    const why = station.badgeName === null ? TEXTS.fault.badge : station.whyNot();
+    if (why) {
+      station.fault(why);
+      return;
+    }
+    const times = { server: clock.local(clock.now()), tablet: clock.local(Date.now()) };
+    station.verdict.ask(said(TEXTS.ask.clock, times), () => station.act("CLOCK", {}));
   }
 
   async show(event) {

@@ -24,6 +24,7 @@ export const WORDS = {
   COUNT: "CountsTaken",
   RECEIVE: "ReelReceived",
   SELECT: "ProductSelected",
+  CLOCK: "ClockSet",
 };
 const isOfReceive = (action) => OF_RECEIVE.includes(action) || /^[0-9]$/.test(action);
 const FRESH = 3_000; // milliseconds: what is known of a slot is asked for again when it is older
@@ -408,6 +409,7 @@ export function bodyOf(
     case "SCRAP": return { Machine: machine, Slot: slot, Quantity: quantity };
     case "COUNT": return { Counts: [{ Reel: reel, Quantity: quantity }] };
     case "SELECT": return { Machine: machine, Product: product };
+    case "CLOCK": return {};
     case "RECEIVE":
       return {
         Reel: reel,

@@ -439,6 +439,8 @@ export class Station {
     }
     if (word === WORDS.SELECT) {
       await this.model.select(body.Machine, body.Product, answer.Number, time);
+    } else if (word === WORDS.CLOCK) {
+      await this.model.all();
     } else if (body.Machine) {
       await this.model.refresh(body.Machine);
     }

@@ -169,6 +169,7 @@ export const TEXTS = {
     SCRAP: "AUSSCHUSS GEBUCHT",
     RECEIVE: "EINGEGANGEN",
     SELECT: "PRODUKT GEWÄHLT",
+    CLOCK: "UHR GESTELLT",
   },
   verdict: {
     accepted: "ANGENOMMEN: {done}",
@@ -193,6 +194,7 @@ export const TEXTS = {
       slot: "{machine} Platz {slot}",
       reel: "{reel}",
       product: "{machine} · {product}",
+      clock: "{time}",
     },
     sides: {
       scanned: "GESCANNT",
@@ -256,6 +258,9 @@ export const TEXTS = {
     time:
       "Die Uhr des Servers ist gesprungen. Sie sagt {server}, dieses Tablet {tablet}. Stimmt " +
       "{server}? Wenn nicht, den Linienführer rufen: Eine falsche Zeit verbraucht Restzeiten.",
+    clock:
+      "Die Uhr des Desks wird auf {server} gestellt; dieses Tablet sagt {tablet}. Stimmt " +
+      "{server}? Der Desk geht nie zurück: Eine falsche Zeit verbraucht Restzeiten.",
     label: "{held}: Das wurde nicht gesendet. Soll das neue Etikett es ersetzen?",
   },
   life: {
@@ -396,6 +401,7 @@ export const TEXTS = {
     SCRAP: "{quantity} Ausschuss an Platz {slot} von {machine}",
     RECEIVE: "Eingang {reel}, {quantity} {part}",
     SELECT: "{product} auf {machine} wählen",
+    CLOCK: "Uhr des Desks stellen",
   },
   receive: {
     title: "Eingang einer Rolle",
@@ -427,6 +433,7 @@ export const TEXTS = {
     selectAll: "Auf allen wählen",
     show: "Bereitstellung zeigen",
     pick: "Bringliste",
+    clock: "Uhr des Desks stellen",
     asking: "Der Desk wird gefragt ..",
     pickHead: {
       where: "Platz",
@@ -539,7 +546,7 @@ export const TEXTS = {
     DeskFull: ["Der Desk ist voll", "Linienführer rufen: Ein neuer Desk muss begonnen werden."],
     TooFarAhead: [
       "Die Zeit liegt mehr als 14 Tage nach der letzten Meldung des Desks",
-      "Linienführer rufen: Die Uhr des Servers ist falsch, oder ein ClockSet fehlt.",
+      "Linienführer rufen: Beim Umrüsten die Uhr des Desks stellen, wenn die des Servers stimmt.",
     ],
     PartExists: ["Teil {at} ist schon bekannt", "Nichts ist zu tun."],
     UnknownPart: [

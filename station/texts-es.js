@@ -164,6 +164,7 @@ export const TEXTS = {
     SCRAP: "DESECHADO",
     RECEIVE: "RECIBIDO",
     SELECT: "PRODUCTO ELEGIDO",
+    CLOCK: "RELOJ PUESTO",
   },
   verdict: {
     accepted: "ACEPTADO: {done}",
@@ -187,6 +188,7 @@ export const TEXTS = {
       slot: "{machine} posición {slot}",
       reel: "{reel}",
       product: "{machine} · {product}",
+      clock: "{time}",
     },
     sides: {
       scanned: "ESCANEADO",
@@ -247,6 +249,9 @@ export const TEXTS = {
     time:
       "El reloj del servidor saltó. Dice {server}, esta tableta {tablet}. ¿Es correcto " +
       "{server}? Si no, llame al jefe de línea: una hora falsa gasta vida útil.",
+    clock:
+      "El reloj del desk se pone a {server}; esta tableta dice {tablet}. ¿Es correcto {server}? " +
+      "El desk nunca vuelve atrás: una hora falsa gasta vida útil.",
     label: "{held}: esto no se envió. ¿La etiqueta nueva lo sustituye?",
   },
   life: {
@@ -379,6 +384,7 @@ export const TEXTS = {
     SCRAP: "desechar {quantity} en posición {slot} de {machine}",
     RECEIVE: "recibir {reel}, {quantity} de {part}",
     SELECT: "elegir {product} en {machine}",
+    CLOCK: "poner en hora el reloj del desk",
   },
   receive: {
     title: "Recibir un rollo",
@@ -410,6 +416,7 @@ export const TEXTS = {
     selectAll: "Elegir en todas",
     show: "Ver el kit",
     pick: "Lista de picking",
+    clock: "Poner en hora el desk",
     asking: "Se pregunta al desk ..",
     pickHead: {
       where: "posición",
@@ -519,7 +526,7 @@ export const TEXTS = {
     DeskFull: ["El desk está lleno", "Llame al jefe de línea: hay que empezar un desk nuevo."],
     TooFarAhead: [
       "La hora es más de 14 días posterior al último mensaje del desk",
-      "Llame al jefe de línea: el reloj del servidor está mal, o falta un ClockSet.",
+      "Llame al jefe de línea: si el servidor tiene la hora correcta, ponga en hora el desk.",
     ],
     PartExists: ["La pieza {at} ya se conoce", "No hay que hacer nada."],
     UnknownPart: [

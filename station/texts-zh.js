@@ -133,6 +133,7 @@ export const TEXTS = {
     SCRAP: "已报废",
     RECEIVE: "已收料",
     SELECT: "已选择产品",
+    CLOCK: "时钟已设置",
   },
   verdict: {
     accepted: "通过：{done}",
@@ -153,6 +154,7 @@ export const TEXTS = {
       slot: "{machine} 站位 {slot}",
       reel: "{reel}",
       product: "{machine} · {product}",
+      clock: "{time}",
     },
     sides: { scanned: "扫描的", wanted: "需要的", reel: "料盘 {reel}", slot: "站位 {slot}", unknown: "不明" },
     isOn: "{reel} 在 {machine} 站位 {slot}。请用另一盘，或先卸下 {machine} 站位 {slot}。",
@@ -198,6 +200,8 @@ export const TEXTS = {
     rise: "desk 上 {reel} 剩 {left} 个。盘点数是 {quantity} 吗？",
     count: "desk 未说明 {reel} 有多少个。盘点数是 {quantity} 吗？",
     time: "服务器时钟跳变。它是 {server}，此平板是 {tablet}。{server} 正确吗？若不正确请叫线长：错误的时间会消耗车间寿命。",
+    clock:
+      "desk 的时钟将设为 {server}；此平板是 {tablet}。{server} 正确吗？desk 不能往回调：错误的时间会消耗车间寿命。",
     label: "{held}：这些尚未发送。要用新标签替换吗？",
   },
   life: {
@@ -315,6 +319,7 @@ export const TEXTS = {
     SCRAP: "{machine} 站位 {slot} 报废 {quantity}",
     RECEIVE: "收料 {reel}，{part} {quantity} 个",
     SELECT: "{machine} 选择 {product}",
+    CLOCK: "设置 desk 的时钟",
   },
   receive: {
     title: "收料",
@@ -344,6 +349,7 @@ export const TEXTS = {
     selectAll: "在所有机器选择",
     show: "显示备料",
     pick: "取料单",
+    clock: "设置 desk 时钟",
     asking: "正在询问 desk ..",
     pickHead: { where: "站位", part: "料号", lasts: "够用", bring: "要拿", missing: "缺" },
     pickTitle: "各机器所产产品 {boards} 板要拿的料，最急的在前，{time}",
@@ -422,7 +428,7 @@ export const TEXTS = {
   refusals: {
     IdReused: ["此扫描的编号已被使用", "请叫线长：可能两台平板共用一个存储。"],
     DeskFull: ["desk 已满", "请叫线长：需要开始新的 desk。"],
-    TooFarAhead: ["时间比 desk 最后的消息晚 14 天以上", "请叫线长：服务器时钟不对，或需要 ClockSet。"],
+    TooFarAhead: ["时间比 desk 最后的消息晚 14 天以上", "请叫线长：若服务器时钟正确，在换线页设置 desk 时钟。"],
     PartExists: ["料号 {at} 已存在", "不用做什么。"],
     UnknownPart: ["料号 {at} 不明", "请检查料号。否则需先定义它。"],
     ReelExists: ["料盘 {at} 之前已收料", "标签是否扫描了两次？每盘料需要自己的名称。"],

@@ -158,6 +158,7 @@ export const TEXTS = {
     SCRAP: "SCRAPPED",
     RECEIVE: "RECEIVED",
     SELECT: "PRODUCT SELECTED",
+    CLOCK: "CLOCK SET",
   },
   verdict: {
     accepted: "ACCEPTED: {done}",
@@ -179,6 +180,7 @@ export const TEXTS = {
       slot: "{machine} slot {slot}",
       reel: "{reel}",
       product: "{machine} · {product}",
+      clock: "{time}",
     },
     sides: {
       scanned: "SCANNED",
@@ -240,6 +242,9 @@ export const TEXTS = {
     time:
       "The server's clock jumped. It says {server}, this tablet {tablet}. Is {server} right? If " +
       "not, call the line leader: a wrong time uses up floor lives.",
+    clock:
+      "The desk's clock will be set to {server}; this tablet says {tablet}. Is {server} right? " +
+      "The desk never goes back: a wrong time uses up floor lives.",
     label: "{held}: this was not sent. Is the new label to take its place?",
   },
   life: {
@@ -372,6 +377,7 @@ export const TEXTS = {
     SCRAP: "scrap {quantity} at slot {slot} of {machine}",
     RECEIVE: "receive {reel}, {quantity} of {part}",
     SELECT: "select {product} on {machine}",
+    CLOCK: "set the desk's clock",
   },
   receive: {
     title: "Receive a reel",
@@ -403,6 +409,7 @@ export const TEXTS = {
     selectAll: "Select on all",
     show: "Show the kit",
     pick: "Pick list",
+    clock: "Set the desk's clock",
     asking: "The desk is being asked ..",
     pickHead: {
       where: "slot",
@@ -511,7 +518,7 @@ export const TEXTS = {
     DeskFull: ["The desk is full", "Call the line leader: a new desk has to be begun."],
     TooFarAhead: [
       "The time is more than 14 days after the desk's last message",
-      "Call the line leader: the server's clock is wrong, or a ClockSet is wanted.",
+      "Call the line leader: Set the desk's clock, at Changeover, if the server's clock is right.",
     ],
     PartExists: ["Part {at} is known already", "Nothing has to be done."],
     UnknownPart: [

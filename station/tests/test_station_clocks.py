@@ -9,7 +9,7 @@ import station_site
 from station_costs import KITS, PERIODS, days
 from station_line import shown_rows
 from station_operator import Operator
-from station_plant import CLOCKS, DISK, count_is, opened, refused, whole
+from station_plant import CLOCKS, DISK, GUARD, count_is, opened, refused, whole
 from station_site import SETUP, Site, wait_for
 from tracedesk_dev import begun
 from tracedesk_dev.trial import Difference
@@ -59,6 +59,42 @@ def test_a_servers_clock_that_jumps(site: Site) -> None:
         if (late := abs(scans[-1]["at"] / 1000 - time.time())) > 60:
             raise Difference(f"the time of the last scan is {late} seconds off")
     print("23 days ahead and back: 2 questions yes, 1 no; a refused scan's time is not kept")
+
+
+SET_CLOCK = "[...document.querySelectorAll('form.changeover button')].at(-1).click()"
+
+
+def life(site: Site) -> int:
+    """The minutes left of the one reel on M1, at the desk's minute."""
+    return int(site.report("/slots?machine=M1").split()[1].split(",")[-1])
+
+
+def test_a_leader_sets_the_clock_of_an_idle_line(site: Site) -> None:
+    """Without a badge nothing is asked, and a no sends nothing. A yes moves the desk to the
+    server's time, and the Line shows the floor lives of now.
+    """
+    load = {"Machine": "M1", "Slot": "3", "Reel": "K-4"}
+    site.say("MaterialsLoaded", load, minutes_ago=5)
+    before = life(site)
+    with Operator(site) as it:
+        it.ready().go("changeover")
+        it.script(SET_CLOCK)
+        if "Scan your badge" not in it.verdict(("fault",))[1]:
+            raise Difference(it.text("verdict"))
+        it.scan("B/anna")
+        for answer in ("A/CANCEL", "A/ENTER"):
+            time.sleep(GUARD)  # a second touch so soon is none
+            it.script(SET_CLOCK)
+            if "The desk's clock will be set to 2" not in it.verdict(("ask",))[1]:
+                raise Difference(it.text("verdict"))
+            it.scan(answer)
+        it.verdict(("accepted",))
+        it.does(holds=("CLOCK SET", time.strftime("%H:")))
+        (scan,) = whole(site, it, 1)
+        told = scan["word"], scan["source"], abs(scan["at"] / 1000 - time.time()) < 60
+        if told != ("ClockSet", "W1 anna", True) or life(site) > before - 4:
+            raise Difference(f"{told}, and of {before} minutes are left {life(site)}")
+        it.go("line")
 
 
 def test_a_tablet_that_slept(site: Site) -> None:
