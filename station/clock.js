@@ -3,6 +3,8 @@
 const APART = 5_000; // milliseconds: so far the tablet's two clocks are apart only after it
                       // slept, or after somebody set one
 
+const two = (number) => String(number).padStart(2, "0");
+
 let server = null; // milliseconds since 1970, by the server
 let at = 0; // of this page's steady clock, when it was said
 let wall = 0; // of the tablet's own clock, then
@@ -40,13 +42,23 @@ export function stamp(milliseconds) {
 /** Hours and minutes of the day where the tablet stands. */
 export function shown(milliseconds) {
   const time = new Date(milliseconds);
-  return `${String(time.getHours()).padStart(2, "0")}:${
-    String(time.getMinutes()).padStart(2, "0")}`;
+  return `${two(time.getHours())}:${two(time.getMinutes())}`;
 }
 
 /** The date where the tablet stands, as 2026-03-02. */
 export function day(milliseconds) {
   const time = new Date(milliseconds);
-  const two = (number) => String(number).padStart(2, "0");
   return `${time.getFullYear()}-${two(time.getMonth() + 1)}-${two(time.getDate())}`;
+}
+
+/** Date and time where the tablet stands, as 2026-03-02 07:05. */
+export function local(milliseconds) {
+  return `${day(milliseconds)} ${shown(milliseconds)}`;
+}
+
+/** The same for a sheet that is read elsewhere too: with what it differs from UTC. */
+export function zoned(milliseconds) {
+  const ahead = -new Date(milliseconds).getTimezoneOffset();
+  const hours = `${two(Math.floor(Math.abs(ahead) / 60))}:${two(Math.abs(ahead) % 60)}`;
+  return `${local(milliseconds)} UTC${ahead < 0 ? "-" : "+"}${hours}`;
 }

@@ -6,10 +6,7 @@ import { TEXTS } from "./words.js";
 
 /** The time of day, of another day with its date. */
 export function dayAnd(time) {
-  const day = new Date(time).toDateString() === new Date(clock.now() ?? time).toDateString()
-    ? ""
-    : `${clock.day(time)} `;
-  return `${day}${clock.shown(time)}`;
+  return clock.day(time) === clock.day(clock.now() ?? time) ? clock.shown(time) : clock.local(time);
 }
 
 /** Where the product is known from: the set-up of the page, of when, or a selection here. */

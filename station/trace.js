@@ -16,6 +16,9 @@ const QUESTIONS = {
   reel: "reel",
   overdue: "overdue",
 };
+const MINUTE = 60_000;
+/** A cell of a report: a minute of the desk is the time where the tablet stands. */
+const cellOf = (column, text) => (column === "minute" ? clock.local(Number(text) * MINUTE) : text);
 const compare = new Intl.Collator("en", { numeric: true }).compare;
 
 export class TraceScreen {
@@ -91,7 +94,7 @@ export class TraceScreen {
       this.answer = {
         told,
         head,
-        rows,
+        rows: rows.map((row) => row.map((it, column) => cellOf(head[column], it))),
         query,
         question: this.question,
         time: told.had ?? clock.now(),
@@ -123,14 +126,14 @@ export class TraceScreen {
           Boolean,
         )
         .join(": ");
-    const upTo = last ? said(texts.upTo, { number: last.number, time: clock.stamp(last.at) })
+    const upTo = last ? said(texts.upTo, { number: last.number, time: clock.zoned(last.at) })
                       : texts.upToNone;
     return [
       said(texts.evidence, {
         asked,
         desk: this.station.setup.title,
         host: location.host,
-        time: clock.stamp(time),
+        time: clock.zoned(time),
         count: rows.length,
       }),
       upTo,

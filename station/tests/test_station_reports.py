@@ -4,6 +4,7 @@ import csv
 import io
 import shutil
 import subprocess
+import time
 from typing import Any
 
 import pytest
@@ -111,7 +112,10 @@ def test_the_overdue_list(site: Site) -> None:
     all_states(site)
     with Operator(site) as it:
         it.ready()
-        wanted = list(csv.reader(io.StringIO(site.report("/overdue"))))[1:]
+        wanted = [
+            [*its, time.strftime("%Y-%m-%d %H:%M", time.localtime(int(minute) * 60))]
+            for *its, minute in list(csv.reader(io.StringIO(site.report("/overdue"))))[1:]
+        ]
         got = asks(it, "overdue", "")
         if not wanted or got != wanted:
             raise Difference(f"overdue: {got} is not {wanted}")

@@ -3,10 +3,18 @@ import test from "node:test";
 
 process.env.TZ = "Europe/Berlin"; // before the first time is read
 await import("./page.mjs");
+const clock = await import("../../clock.js");
 const { bodyOf } = await import("../../scan.js");
 const { whatOf, whereOf, wordsOf } = await import("../../answers.js");
 
 const WINTER = Date.UTC(2026, 2, 3, 10, 10);
+
+test("times are those of where the tablet stands", () => {
+  assert.equal(clock.local(WINTER), "2026-03-03 11:10");
+  assert.equal(clock.zoned(WINTER), "2026-03-03 11:10 UTC+01:00");
+  assert.equal(clock.zoned(Date.UTC(2026, 6, 1, 22, 5)), "2026-07-02 00:05 UTC+02:00");
+  assert.equal(clock.stamp(WINTER), "2026-03-03T10:10:00Z", "but for messages");
+});
 
 test("a clock that is set says its time", () => {
   const answer = { Answer: "Accepted", Number: 7 };
