@@ -1,6 +1,7 @@
 // The screen Changeover: the product of each machine, and the kit for so many boards with what is
 // on the slots already.
 import { ALL_BOARDS, allotted, unclear } from "./allot.js";
+import { Cart } from "./cart.js";
 import * as clock from "./clock.js";
 import * as desk from "./desk.js";
 import { button, el, field, table } from "./dom.js";
@@ -17,6 +18,7 @@ export class ChangeoverScreen {
     this.station = station;
     this.product = "";
     this.boards = String(station.setup.boards);
+    this.cart = new Cart(station);
   }
 
   parts() {
@@ -48,10 +50,12 @@ export class ChangeoverScreen {
     this.turn = 0; // of what is shown: a slow answer takes the place of no newer one
     this.kits.append(el("p", { class: "note" }, texts.asking));
     this.pick();
-    return [this.form, this.kits, el("p", { class: "legend" }, texts.work), this.now];
+    const work = el("p", { class: "legend" }, texts.work);
+    return [this.form, this.cart.parts(), this.kits, work, this.now];
   }
 
   update() {
+    this.cart.update();
     this.now.replaceChildren(...this.station.model.lines.map(
       ({ machine }) => el(
         "li",

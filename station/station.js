@@ -1,5 +1,6 @@
 // The page at the line: its screens, its scanner, and what goes on whatever screen is shown.
 import { whatOf } from "./answers.js";
+import { isQuiet } from "./cart.js";
 import { ChangeoverScreen } from "./changeover.js";
 import * as clock from "./clock.js";
 import * as desk from "./desk.js";
@@ -371,10 +372,14 @@ export class Station {
       return false;
     }
     try {
-      const scan = await this.outbox.add(word, body, this.source(), this.model.wanted(values));
+      const isCart = Boolean(values.isCart); // then it is one of many, which are counted
+      const about = { ...this.model.wanted(values), isCart };
+      const scan = await this.outbox.add(word, body, this.source(), about);
       this.mine.add(scan.uid);
-      this.verdict.asked(scan);
-      play("waiting");
+      if (!isCart) {
+        this.verdict.asked(scan);
+        play("waiting");
+      }
       this.used(ahead);
       return true;
     } catch (fault) {
@@ -416,7 +421,7 @@ export class Station {
       desk.heardAnswer();
       const isMine = this.mine.delete(answered.uid);
       const isOurs = isMine || (await this.outbox.isOurs(answered));
-      if (isOurs && !this.verdict.wasShown(answered.uid)) {
+      if (isOurs && !isQuiet(answered) && !this.verdict.wasShown(answered.uid)) {
         this.verdict.answered(
           answered,
           !isMine ||
@@ -425,6 +430,7 @@ export class Station {
       }
       this.model.heard(answered);
       this.screens.receive.answered(answered);
+      this.screens.changeover.cart.answered(answered);
       this.screens.scan.refresh();
       if (answered.answer.Answer === "Accepted") {
         await this.accepted(answered);

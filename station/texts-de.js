@@ -484,6 +484,18 @@ export const TEXTS = {
       "abgelehnt.",
     badName: "Ein Produkt angeben, und eine Zahl von 1 bis 100.000 Baugruppen.",
   },
+  cart: {
+    label: "Wagen: eine Zeile je Platz, wie 1,K-01",
+    load: "Nach der Liste auf {machine} rüsten",
+    ask:
+      "{machine}: Nach dieser Liste {unload|wird|werden} {unload} {unload|Platz|Plätze} " +
+      "abgerüstet, dann {load} {load|Platz|Plätze} gerüstet. Steht der Wagen an der Maschine?",
+    none: "Jeder Platz hat schon die Rolle der Liste.",
+    row: "Zeile {row} ist nicht Platz und Rolle: {text}",
+    twice: "Zeile {row} hat einen Platz oder eine Rolle von oben noch einmal: {text}",
+    waiting: "{count} {count|Meldung|Meldungen} der Liste {count|hat|haben} noch keine Antwort",
+    done: "Die Liste ist fertig: {accepted} angenommen, {refused} abgelehnt",
+  },
   trace: {
     title: "Rückverfolgung",
     lot: "Baugruppen eines Loses",

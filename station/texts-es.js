@@ -463,6 +463,19 @@ export const TEXTS = {
     work: "El desk no dice qué placa está en curso. Mientras haya una, la elección se rechaza.",
     badName: "Indique un producto y un número de placas de 1 a 100.000.",
   },
+  cart: {
+    label: "Carro: una fila por posición, como 1,K-01",
+    load: "Cargar la lista en {machine}",
+    ask:
+      "{machine}: según esta lista se {unload|descarga|descargan} {unload} " +
+      "{unload|posición|posiciones} y luego se {load|carga|cargan} {load} " +
+      "{load|posición|posiciones}. ¿Está el carro en la máquina?",
+    none: "Cada posición tiene ya el rollo de la lista.",
+    row: "La fila {row} no es posición y rollo: {text}",
+    twice: "La fila {row} repite una posición o un rollo de arriba: {text}",
+    waiting: "{count} {count|mensaje|mensajes} de la lista aún sin respuesta",
+    done: "Lista terminada: {accepted} aceptados, {refused} rechazados",
+  },
   trace: {
     title: "Trazabilidad",
     lot: "Placas de un lote",

@@ -377,6 +377,17 @@ export const TEXTS = {
     work: "desk 不说明哪块板在生产。生产中时，选择会被拒绝。",
     badName: "请填写产品，以及 1 到 100,000 的板数。",
   },
+  cart: {
+    label: "料车：每个站位一行，如 1,K-01",
+    load: "按清单装到 {machine}",
+    ask:
+      "{machine}：按此清单先卸下 {unload} 个站位，再装 {load} 个站位。料车已在机器旁吗？",
+    none: "每个站位已是清单上的料盘。",
+    row: "第 {row} 行不是站位和料盘：{text}",
+    twice: "第 {row} 行的站位或料盘与上面重复：{text}",
+    waiting: "清单有 {count} 条消息尚无应答",
+    done: "清单完成：接受 {accepted}，拒绝 {refused}",
+  },
   trace: {
     title: "追溯",
     lot: "批次所在的板",

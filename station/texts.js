@@ -456,6 +456,18 @@ export const TEXTS = {
     work: "The desk does not say which board is in work. While one is, a selection is refused.",
     badName: "Give a product, and a number of boards from 1 to 100,000.",
   },
+  cart: {
+    label: "Cart: a row for each slot, as 1,K-01",
+    load: "Load the list on {machine}",
+    ask:
+      "{machine}: by this list {unload} {unload|slot is|slots are} unloaded, then {load} " +
+      "{load|slot is|slots are} loaded. Is the cart at the machine?",
+    none: "Each slot has the reel of the list already.",
+    row: "Row {row} is no slot and reel: {text}",
+    twice: "Row {row} has a slot or a reel of a row above: {text}",
+    waiting: "{count} {count|message|messages} of the list {count|has|have} no answer yet",
+    done: "The list is done: {accepted} accepted, {refused} refused",
+  },
   trace: {
     title: "Trace",
     lot: "Boards of a lot",

@@ -1,11 +1,12 @@
 """Changeover: which reels to bring, over all machines."""
 import json
+import time
 from typing import Any
 
 import pytest
 from station_line import report
 from station_operator import Operator
-from station_plant import whole
+from station_plant import GUARD, whole
 from station_site import Site, wait_for
 from tracedesk_dev.trial import Difference
 
@@ -291,7 +292,7 @@ def test_a_pick_list_over_the_line(site: Site) -> None:
             or "M1 1" in {row[0] for row in rows}
         ):
             raise Difference(f"to bring: {rows}, free {free}")
-        it.script("[...document.querySelectorAll('form.changeover button')].at(-2).click()")
+        it.script("[...document.querySelectorAll('form.changeover button')].at(-3).click()")
         scans = wait_for(
             "two selections",
             lambda: (told := it.scans())
@@ -307,3 +308,49 @@ def test_a_pick_list_over_the_line(site: Site) -> None:
     print(
         f"{len(rows)} slots by urgency, {len(brought)} reels, none twice; 2 selections by one touch"
     )
+
+
+def load(it: Operator, text: str) -> None:
+    """Loads a list on the first machine; a second touch so soon would be none."""
+    time.sleep(GUARD)
+    it.script(
+        "const list = document.querySelector('.cart textarea'); list.value = arguments[0];"
+        " document.querySelector('.cart button').click()",
+        text,
+    )
+
+
+def test_a_cart_by_one_list(site: Site) -> None:
+    """One list loads a machine's slots: a reel that is there stays, what is in the way goes first.
+    Greens are counted, and a refusal is shown. A list that is wrong sends nothing.
+    """
+    for slot, reel in (("1", "K-1"), ("3", "K-3")):
+        site.say("MaterialsLoaded", {"Machine": "M1", "Slot": slot, "Reel": reel})
+    said = "return document.querySelector('.cart .note').textContent"
+    with Operator(site) as it:
+        it.ready().go("changeover")
+        load(it, "1,K-1\n1,K-3")
+        wait_for("the wrong row", lambda: "Row 2 has" in it.script(said))
+        load(it, "1,K-1\n2;K-2\n10\tK-8\n3,K-4")
+        text = it.verdict(("ask",))[1]
+        if "M1: by this list 1 slot is unloaded, then 3 slots are loaded" not in text:
+            raise Difference(text)
+        it.scan("A/ENTER")
+        wait_for("the list is done", lambda: "done: 4 accepted, 0 refused" in it.script(said))
+        scans = whole(site, it, 4)
+        words = [(scan["word"].removeprefix("Materials"), scan["body"]["Slot"]) for scan in scans]
+        if words != [("Unloaded", "3"), ("Loaded", "2"), ("Loaded", "10"), ("Loaded", "3")]:
+            raise Difference(f"sent: {words}")
+        on_slots = {(row["slot"], row["reel"]) for row in report(site, "/slots?machine=M1")}
+        if on_slots != {("1", "K-1"), ("2", "K-2"), ("10", "K-8"), ("3", "K-4")}:
+            raise Difference(f"on the slots: {on_slots}")
+        if not it.script("return document.getElementById('verdict').hidden"):
+            raise Difference(it.text("verdict"))
+        load(it, "1,K-1\n3,K-4")
+        wait_for("nothing to do", lambda: "has the reel of the list" in it.script(said))
+        load(it, "2,K-5")
+        it.verdict(("ask",))
+        it.does("A/ENTER", kind="refused", holds=("WRONG PART", "M1 slot 2"))
+        wait_for("it is counted", lambda: "done: 1 accepted, 1 refused" in it.script(said))
+        it.seen()
+        whole(site, it, 6)
