@@ -8,7 +8,7 @@ from station_operator import Operator
 from station_plant import CLOCKS, GUARD, opened, records
 from station_site import Site, wait_for
 from tracedesk_dev.trial import Difference
-from tracedesk_ops import story
+from tracedesk_ops import doubts
 
 pytestmark = pytest.mark.browser
 PRESS = "document.querySelectorAll('#verdict .off button')[arguments[0]]?.click()"
@@ -99,7 +99,7 @@ def test_it_is_asked_twice_and_can_be_undone(site: Site) -> None:
         it.script("window.later += 70_000")
         wait_for_text(it, "Noted: the reel was taken off")
         (told,) = [one for one in records(site) if one["Kind"] == "decided"]
-        if told["Became"] != story.TAKEN_OFF or "anna" not in told["By"]:
+        if told["Became"] != doubts.TAKEN_OFF or "anna" not in told["By"]:
             raise Difference(f"a decision: {told}")
 
 
