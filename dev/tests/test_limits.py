@@ -26,7 +26,7 @@ PLACES = {
     "GREATEST_MINUTE": "ops/tracedesk_ops/heads.py",
     "GREATEST_QUANTITY": (
         "clients/python/tracedesk/words.py crates/cfx_profile/src/forms.rt"
-        " crates/desk_types/src/number.rt dev/tracedesk_dev/desk_cases.py docs/DECISIONS.md"
+        " crates/desk_types/src/number.rt dev/tracedesk_dev/desk_cases.py"
         " docs/api/message.schema.json docs/api/messages.json docs/api/openapi.json docs/files.md"
         " docs/messages.md station/names.js"
     ),
@@ -42,7 +42,7 @@ PLACES = {
     "MOST_ENTRIES": (
         "README.md crates/desk_file/src/opening.rt crates/desk_words/src/command_line.rt"
         " crates/line_schema/src/fault.rt crates/line_schema/src/store.rt"
-        " crates/line_schema/src/store/book.rt docs/DECISIONS.md docs/api.md"
+        " crates/line_schema/src/store/book.rt docs/api.md"
         " docs/api/answer.schema.json docs/api/messages.json docs/api/openapi.json docs/messages.md"
     ),
 }
