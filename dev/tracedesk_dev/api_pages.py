@@ -52,9 +52,11 @@ def grouped(rows: Iterable[tuple[str, Cell]]) -> list[tuple[str, Cell]]:
 
 
 def grouped_by_reason(table: Table) -> list[tuple[str, ...]]:
+    """The kinds of which somebody has to know more before one is sent again."""
     rows = grouped(
         (it["word"], ("report of work" if it["report"] else "request", it["reason"]))
         for it in table["messages"]
+        if "reason" in it
     )
     return [(names, *cells) for names, cells in rows]
 
