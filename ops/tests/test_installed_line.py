@@ -27,11 +27,11 @@ rm -r $at_unit; systemctl daemon-reload; systemctl reset-failed tracedesk-clock@
 CLOCK_RUNS = r"""
 at_unit=/run/systemd/system/tracedesk-clock@.service.d; mkdir -p $at_unit
 printf '[Service]\nExecStart=\nExecStart=/bin/true\n' > $at_unit/none.conf
-systemctl unmask --runtime tracedesk-clock.timer; systemctl restart tracedesk
+systemctl unmask --quiet --runtime tracedesk-clock.timer; systemctl restart tracedesk
 systemctl is-active tracedesk-clock.timer
 systemctl stop tracedesk
 systemctl is-active tracedesk-clock.timer || true
-systemctl mask --runtime tracedesk-clock.timer; rm -r $at_unit; systemctl daemon-reload
+systemctl mask --quiet --runtime tracedesk-clock.timer; rm -r $at_unit; systemctl daemon-reload
 systemctl start tracedesk
 """
 BY_POSTGRES = r"""
