@@ -41,7 +41,8 @@ pub fn answer_request<L: ReportedOwner>(
     }
 }
 
-fn answer_report<L: ReportedOwner>(
+/// Answers a question for a report.
+pub fn answer_report<L: ReportedOwner>(
     alloc: Global,
     owner: &mut L,
     report: Report,

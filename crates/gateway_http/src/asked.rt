@@ -80,7 +80,8 @@ impl RouteTable {
     }
 }
 
-fn cut_target(target: &[u8]) -> (&[u8], &[u8])
+/// Returns the path and the query of a request's target.
+pub fn cut_target(target: &[u8]) -> (&[u8], &[u8])
     ensures path { result.0.now ≡ path_of target.now }
     ensures query { result.1.now ≡ query_of target.now }
 {

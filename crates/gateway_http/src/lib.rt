@@ -21,7 +21,8 @@ mod statuses;
 mod store;
 mod values;
 
-pub use asked::{Asked, Report};
+pub use answers::answer_report;
+pub use asked::{Asked, Report, cut_target};
 pub use desk_answers::{ServeFault, Served};
 pub use fault::AskFault;
 pub use gateway::{ask, serve};
@@ -30,5 +31,7 @@ pub use law::{questions_leave_the_list, repeats_leave_the_list};
 pub use line_schema::Unavailable;
 pub use message_answers::{answer_fault, answer_import, answer_message, json};
 pub use parameter::Parameter;
+pub use query::value_of;
 pub use reported::ReportedOwner;
 pub use routes::{Method, RouteTable};
+pub use statuses::verdict_status;

@@ -22,4 +22,4 @@ pub use kind::{Kind, not_found_text};
 pub use limits::LONGEST_SAYING;
 pub use member::Member;
 pub use noted::{Noted, noted_text};
-pub use state::{Point, state_text};
+pub use state::{Point, causes_text, state_text};

@@ -44,11 +44,12 @@ pub fn state_text<D: Desk>(
         return Ok(None);
     }
     let found = guard.causes(alloc, desk, machine)?;
-    Ok(Some(text_with(alloc, machine, point, found.as_slice())?))
+    Ok(Some(causes_text(alloc, machine, point, found.as_slice())?))
 }
 
+/// Returns the text of the answer that says whether the machine may work, from the causes why not.
 #[tactic(auto, unfolding(crate::specs::State::text_with))]
-fn text_with(
+pub fn causes_text(
     alloc: Global,
     machine: &Id,
     point: &Point,

@@ -6,9 +6,9 @@ ghost use Rattle.desk_types.specs.Desk.{HasRoom};
 ghost use Rattle.desk_types.specs.History.{History, Basis, accept};
 ghost use Rattle.desk_types.specs.Id.{Name};
 ghost use Rattle.desk_types.specs.Setup.{allows, sheet_on};
-ghost use Rattle.desk_types.specs.Work.{work_by};
+ghost use Rattle.desk_types.specs.Work.{in_work_on, work_by};
 ghost use Rattle.setup_sheets.specs.Alternates.{is_pair_among};
-ghost use Rattle.line_book.specs.Book.{Book, closes, decides};
+ghost use Rattle.line_book.specs.Book.{Book, closes, decides, is_open};
 ghost use Rattle.line_book.specs.Causes.{causes, concerns};
 ghost use Rattle.line_book.specs.declared.cause.Cause.TheVariants.{NoWork, Open};
 ghost use Rattle.line_book.specs.Go.{MayWork};
@@ -88,6 +88,22 @@ impl Guard {
             self.undecided.as_slice()
         };
         has_repeat(standing, refusal)
+    }
+
+    /// Returns the open entries, oldest first.
+    pub fn open_notes(&self) -> &[Note]
+        ensures { (H : History) (B : Book) → IsGuard H B self.now
+            → result.now ≡ filter (is_open H B) B }
+    {
+        self.open_notes.as_slice()
+    }
+
+    /// Returns the board in work on the machine.
+    pub fn board_on(&self, machine: &Id) -> Option<Id>
+        ensures { (H : History) (B : Book) → IsGuard H B self.now
+            → result ≡ in_work_on H machine.now }
+    {
+        self.running.get(machine).copied()
     }
 
     /// Returns the entries that wait for a decision, oldest first.

@@ -58,7 +58,7 @@ more_rows rows es row on at found =
     some_left p [] row h = absurd (cc)
     some_left p (r ∷ rest) row h = omega arith
 
-all_rows : (rows : List Row) (es : List BookRow) → GoOn 0 es → AreAt rows 0 es → length rows ≡ length es → IsPermutation rows (map entry_columns es)
+pub all_rows : (rows : List Row) (es : List BookRow) → GoOn 0 es → AreAt rows 0 es → length rows ≡ length es → IsPermutation rows (map entry_columns es)
 all_rows rows es on at long =
     let o = others_of 0 rows es on at in
     subst (IsPermutation rows) (append-nil (map entry_columns es)) (subst (λ l. IsPermutation rows (map entry_columns es ++ l)) (nothing o.0 (omega (arith, others_length rows es o.0 o.1, long))) o.1)

@@ -16,16 +16,16 @@ use Rattle.line_book_store.specs.{Book.entry_columns, Book.GoOn, Checking.AreRea
 
 -- ---- one row
 
-told-with : (n : Note) (o : Option (List ℕ)) (out : List ℕ → Note) → (ok_or o WrongTold >>= λ t. Ok (out t)) ≡ Ok n → (t : List ℕ) × (n ≡ out t)
+pub told-with : (n : Note) (o : Option (List ℕ)) (out : List ℕ → Note) → (ok_or o WrongTold >>= λ t. Ok (out t)) ≡ Ok n → (t : List ℕ) × (n ≡ out t)
 told-with n None out is = cc
 told-with n (Some t) out is = (t, cc)
 
-said-with : (r : Result Matter RowFault) (text : Matter → Option (List ℕ)) (out : Matter → List ℕ → Note) (n : Note)
+pub said-with : (r : Result Matter RowFault) (text : Matter → Option (List ℕ)) (out : Matter → List ℕ → Note) (n : Note)
     → (r >>= λ m. ok_or (text m) WrongTold >>= λ t. Ok (out m t)) ≡ Ok n → (m : Matter) × (t : List ℕ) × (r ≡ Ok m) × (n ≡ out m t)
 said-with (Err f) text out n is = cc
 said-with (Ok m) text out n is = let it = told-with n (text m) (out m) is in (m, it.0, refl, it.1)
 
-said : (b : Reading) (row : BookRow) (named : Option Names) (n : Note) → entry_in b row named ≡ Ok n → (m : Matter) × (t : List ℕ) × (matter_in b row named ≡ Ok m) × (n ≡ note_of row m t)
+pub said : (b : Reading) (row : BookRow) (named : Option Names) (n : Note) → entry_in b row named ≡ Ok n → (m : Matter) × (t : List ℕ) × (matter_in b row named ≡ Ok m) × (n ≡ note_of row m t)
 unfolding entry_in
 said b row named n is = said-with (matter_in b row named) (λ m. text_of m (string_bytes row.told)) (note_of row) n is
 
