@@ -1,7 +1,6 @@
 """A file is replaced whole, also if calls of several tools meet; and a copy is made equal to it."""
 from __future__ import annotations
 
-import io
 import os
 import pathlib
 import random
@@ -75,12 +74,6 @@ def test_nothing_is_written_through_a_link(tmp_path: pathlib.Path) -> None:
 SIZES = (0, 1, files.PAGE, files.CHUNK - 1, files.CHUNK, 2 * files.CHUNK + 3 * files.PAGE + 7)
 
 
-def equal(path: pathlib.Path, to: pathlib.Path) -> list[bool]:
-    """Makes a copy equal; of each chunk whether a page was written."""
-    with open(path, "rb", buffering=0) as source, open(to, "r+b", buffering=0) as target:
-        return list(files.made_equal(source, target))
-
-
 @pytest.mark.parametrize("before", SIZES)
 @pytest.mark.parametrize("size", SIZES)
 def test_a_copy_becomes_equal_whatever_it_was(
@@ -91,13 +84,13 @@ def test_a_copy_becomes_equal_whatever_it_was(
     content, older = bytearray(chance.randbytes(size)), chance.randbytes(before)
     path.write_bytes(content)
     to.write_bytes(older)
-    assert any(equal(path, to)) == bool(size)
+    assert bool(files.make_equal(path, to)) == bool(size)
     assert to.read_bytes() == content
-    assert not any(equal(path, to))
+    assert not files.make_equal(path, to, is_gentle=True)
     for place in {0, size // 2, size - 1} if size else ():
         content[place] ^= 1
         path.write_bytes(content)
-        assert equal(path, to).count(True) == 1
+        assert files.make_equal(path, to, is_gentle=True) == 1
         assert to.read_bytes() == content
 
 
@@ -112,10 +105,10 @@ def test_only_pages_that_differ_are_written(
     written: list[tuple[int, int]] = []
     whole = files.write_at
 
-    def write(file: io.FileIO, page: bytearray, at: int) -> None:
+    def write(number: int, page: bytearray, at: int) -> None:
         written.append((at, len(page)))
-        whole(file, page, at)
+        whole(number, page, at)
 
     monkeypatch.setattr(files, "write_at", write)
-    assert equal(path, to) == [False, True, False]
+    assert files.make_equal(path, to) == 1
     assert written == [(files.CHUNK + files.PAGE, files.PAGE)]

@@ -17,7 +17,7 @@ from lab import ROOT, files
 from lab.desk import Desk
 from lab.messages import FIRST_LINE, part
 from lab.waits import PATIENCE
-from tracedesk_ops import chains, cli, held, lineage, plant, sealed
+from tracedesk_ops import chains, cli, lineage, plant, sealed
 from tracedesk_ops.line import LineFolder
 
 Path = pathlib.Path
@@ -289,7 +289,6 @@ def test_another_desk_on_the_port_and_one_that_has_accepted_nothing(
     served: Desk, program: Path, folder: Path, monkeypatch: pytest.MonkeyPatch
 ) -> None:
     monkeypatch.setenv("PROGRAM", str(program))
-    monkeypatch.setattr(held, "TRIES", 1)
     called = Called(LineFolder(served.file.parent), monkeypatch)
     other = Desk(program, folder / "L2" / "desk")
     try:

@@ -31,8 +31,8 @@ examples:
   tracedesk-ops rollover L1 --due            is it time?
   tracedesk-ops rollover L1 --if-due
 
-A seal holds the senders of a running desk for milliseconds. It then removes each sealed file that
-a newer one continues, but keeps the newest three. A check repairs nothing: stop the service of the
+A seal stops nothing: a running desk goes on. It then removes each sealed file that a newer one
+continues, but keeps the newest three. A check repairs nothing: stop the service of the
 line and restore its newest sealed file. --dry-run prints the steps of a restore and the commands
 that the senders must send again.
 

@@ -20,6 +20,7 @@ import struct
 from collections.abc import Iterator
 from typing import Any, BinaryIO
 
+from tracedesk_ops import files
 from tracedesk_ops.files import Room
 
 MAGIC = b"SQLite format 3\0"
@@ -27,7 +28,7 @@ MAGIC = b"SQLite format 3\0"
 LOGS = ("-wal", "-journal")
 LOCKED_FROM, LOCKED = 1 << 30, 512  # the bytes of a file that SQLite locks
 LONGEST_EMPTY_LOG = 56  # bytes: the head of a log and that of a page, without the page
-TRIES = 5  # of a copy of a running desk
+TRIES = 30  # of a copy of a running desk: only the first one takes long
 FLOCK = "hhqqi0q"  # Linux' struct flock of 64 bits: type, whence, start, length, process
 
 
@@ -95,18 +96,19 @@ class Changing(Exception):
         super().__init__(f"it was changed while it was copied, {TRIES} times: ask again")
 
 
-def copy_live(file: pathlib.Path, to: pathlib.Path) -> None:
-    """Copies the file and the log of a desk that may run, as they are now. Nobody else may open
-    them. A log is written to its end while the file stays, until the file takes the log in: a copy
-    during which the file changed, or the log began anew, is made again.
+def copy_live(file: pathlib.Path, to: pathlib.Path, is_gentle: bool = False) -> None:
+    """Makes a copy of the file and the log of a desk that may run equal to them, as they are now.
+    Nobody else may open the copies. A log is written to its end while the file stays, until the
+    file takes the log in: if the file changed meanwhile, or the log began anew, what differs is
+    copied again.
     """
-    log = pathlib.Path(f"{file}-wal")
+    log, log_to = (pathlib.Path(f"{it}-wal") for it in (file, to))
     for _ in range(TRIES):
         before = state_of(file, log)
-        shutil.copyfile(file, to)
-        pathlib.Path(f"{to}-wal").unlink(missing_ok=True)
+        files.make_equal(file, to, is_gentle)
+        log_to.unlink(missing_ok=True)
         with contextlib.suppress(FileNotFoundError):
-            shutil.copyfile(log, f"{to}-wal")
+            shutil.copyfile(log, log_to)
         if state_of(file, log) == before:
             return
     raise Changing()

@@ -9,7 +9,6 @@ import errno
 import fcntl
 import glob
 import hashlib
-import io
 import os
 import pathlib
 import secrets
@@ -135,36 +134,38 @@ def sha256_within(file: BinaryIO) -> str:
     return checksum.hexdigest()
 
 
-def made_equal(source: io.FileIO, target: io.FileIO) -> Iterator[bool]:
-    """Makes a copy equal to a file by writing the pages that differ, chunk by chunk; says of each
-    whether a page of it was written.
+def make_equal(path: pathlib.Path, to: pathlib.Path, is_gentle: bool = False) -> int:
+    """Makes a copy equal to a file by writing the pages that differ; how many chunks had some. A
+    gentle one waits for the disk after each of these: so whoever else waits for the disk meanwhile
+    waits for no more than a chunk.
     """
-    chunk, there, at = bytearray(CHUNK), bytearray(CHUNK), 0
-    while count := source.readinto(chunk):
-        known = os.preadv(target.fileno(), [there], at)
-        del chunk[count:], there[min(known, count) :]
-        if is_other := chunk != there:
-            for page in range(0, count, PAGE):
-                its = chunk[page : page + PAGE]
-                if its != there[page : page + PAGE]:
-                    write_at(target, its, at + page)
-        at += count
-        yield is_other
-    target.truncate(at)
+    chunk, there, at, written = bytearray(CHUNK), bytearray(CHUNK), 0, 0
+    how = os.O_RDWR | os.O_CREAT | os.O_CLOEXEC
+    with open(path, "rb", buffering=0) as source, open(os.open(to, how, 0o600), "r+b", 0) as target:
+        while count := source.readinto(chunk):
+            known = os.preadv(target.fileno(), [there], at)
+            del chunk[count:], there[min(known, count) :]
+            if chunk != there:
+                written += 1
+                write_pages(target.fileno(), chunk, there, at)
+                if is_gentle:
+                    os.fdatasync(target.fileno())
+            at += count
+        target.truncate(at)
+    return written
 
 
-def write_at(file: io.FileIO, content: bytearray, at: int) -> None:
+def write_pages(number: int, chunk: bytearray, there: bytearray, at: int) -> None:
+    """Writes the pages of a chunk that an open file doesn't have."""
+    size = PAGE if there else CHUNK
+    for place in range(0, len(chunk), size):
+        page = chunk[place : place + size]
+        if page != there[place : place + size]:
+            write_at(number, page, at + place)
+
+
+def write_at(number: int, content: bytearray, at: int) -> None:
     while content:
-        written = os.pwrite(file.fileno(), content, at)
+        written = os.pwrite(number, content, at)
         del content[:written]
         at += written
-
-
-def copy_gently(source: io.FileIO, target: io.FileIO) -> None:
-    """Makes a copy equal to a file, and waits for the disk after each chunk: so whoever else waits
-    for the disk meanwhile waits for no more than a chunk.
-    """
-    for is_other in made_equal(source, target):
-        if is_other:
-            os.fdatasync(target.fileno())
-    os.fsync(target.fileno())

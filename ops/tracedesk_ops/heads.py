@@ -11,6 +11,7 @@ import pathlib
 import secrets
 import sqlite3
 from collections.abc import Iterable
+from typing import Any
 
 from tracedesk import Desk
 
@@ -78,18 +79,23 @@ def has_minute(port: int) -> bool:
 
 
 def give(port: int, uids: list[str]) -> None:
-    """Gives heads to the desk that runs on a port of this machine; a NoHead says why it has not
-    taken them.
+    """Gives heads to the desk that runs on a port of this machine, if it has a minute; a NoHead
+    says why it has not taken them.
     """
-    if not uids or not has_minute(port):
-        return
-    for uid in uids:
-        answer = said(port, message(uid))
-        if answer.get("Answer") != "Accepted":
-            raise NoHead(f"the desk on port {port} answers {uid} with {json.dumps(answer)}")
+    if uids and has_minute(port):
+        for uid in uids:
+            number_of(port, uid)
 
 
-def said(port: int, text: str) -> "dict[str, object]":
+def number_of(port: int, uid: str) -> int:
+    """Gives a head to a running desk; the number that it has there."""
+    answer = said(port, message(uid))
+    if answer.get("Answer") != "Accepted" or not isinstance(answer.get("Number"), int):
+        raise NoHead(f"the desk on port {port} answers {uid} with {json.dumps(answer)}")
+    return int(answer["Number"])
+
+
+def said(port: int, text: str) -> dict[str, Any]:
     """A running desk's answer to a message."""
     headers = {"Content-Type": "application/json", "Connection": "close"}
     try:

@@ -1,8 +1,8 @@
-"""Seals a line's desk: copies it while it stands still, has the copy audited, and names it by its
-content. A copy that fails is not kept.
+"""Seals a line's desk: copies it, has the copy audited, and names it by its content. A copy that
+fails is not kept.
 
-A running desk answers one connection at a time. So it is held by that connection for the time of
-the copy: held.py. One that is stopped is held by SQLite's lock.
+A running desk goes on meanwhile. It is given a marker first, and the copy has all up to that: so
+another desk on the port is noticed. One that is stopped is held by SQLite's lock.
 
     made = sealing.seal(line, 8080, program.audit)
     sealing.faults_since(made, lineage.of(line))
@@ -11,9 +11,11 @@ from __future__ import annotations
 
 import os
 import pathlib
+import secrets
+import sqlite3
 from collections.abc import Callable
 
-from tracedesk_ops import copies, files, heads, held, lineage, plant, sealed
+from tracedesk_ops import copies, files, heads, lineage, plant, sealed
 from tracedesk_ops.line import LineFolder
 from tracedesk_ops.lineage import Lineage
 from tracedesk_ops.sealed import FilesFault, Sealed
@@ -22,8 +24,14 @@ Path = pathlib.Path
 Audit = Callable[[Path], int]  # how many commands a lawful file has; else a plant.Fault
 
 
+UID = "SELECT uid FROM accepted WHERE number = ?"
+
+
 class NotSealed(FilesFault):
     """Why there is no new sealed file. The desk goes on as before."""
+
+
+NOT_NOW = (heads.NoHead, copies.InUse, copies.Changing, plant.Fault, OSError, sqlite3.Error)
 
 
 def seal(line: LineFolder, port: int, audit: Audit) -> Sealed:
@@ -41,7 +49,7 @@ def sealed_in(line: LineFolder, work: Path, port: int, audit: Audit) -> Sealed:
             copied_running(line.desk, port, copy, audit)
         else:
             copied_stopped(line.desk, copy, audit)
-    except (held.NoCopy, copies.InUse, heads.NoHead, plant.Fault) as fault:
+    except NOT_NOW as fault:
         raise NotSealed(f"{line.desk} was not sealed: {fault}") from fault
     made = put(line, copy)
     drop_found(line, made)
@@ -54,27 +62,40 @@ def bytes_of(desk: Path) -> int:
 
 
 def copied_running(desk: Path, port: int, to: Path, audit: Audit) -> None:
-    """Copies a running desk, up to a command that this call gives it: so another desk on the port
-    is noticed.
-    """
+    """Copies a running desk, with a command that this call gives it."""
     if not port:
         raise NotSealed(f"{desk} runs, and nothing says on which port it answers: say by --port")
     if not heads.has_minute(port):
         raise NotSealed(f"{desk} has accepted nothing, so there is nothing to seal")
-    held.lawful(desk, port, held.new_marker, to, audit)
-    plant.without_log(to)
+    marker = f"copy-{secrets.token_hex(16)}"
+    number = heads.number_of(port, marker)
+    copies.copy_live(desk, to, is_gentle=True)
+    want_lawful(to, audit)
+    with sealed.opened(to) as database:
+        if copies.rows(database, UID, number) != [(marker,)]:
+            raise NotSealed(
+                f"{desk} has no {marker}, which is command {number} of the desk on port {port}:"
+                " does another desk answer there?"
+            )
 
 
 def copied_stopped(desk: Path, to: Path, audit: Audit) -> None:
     """Copies a desk that no run has open, with its log."""
+    for left in (to, *copies.logs_of(to)):
+        left.unlink(missing_ok=True)  # of a copy of it while it ran
     copies.copy(desk, to)
-    copies.fold(to)
-    commands = audit(to)
-    plant.without_log(to)
-    with sealed.opened(to) as database:
+    want_lawful(to, audit)
+
+
+def want_lawful(copy: Path, audit: Audit) -> None:
+    """Has a copy audited, with all that its log has."""
+    copies.fold(copy)
+    commands = audit(copy)
+    plant.without_log(copy)
+    with sealed.opened(copy) as database:
         found = sealed.size(database, sealed.HISTORY)
     if not found or found != commands:
-        raise NotSealed(f"{desk} has {found} commands, and the audit of a copy says {commands}")
+        raise NotSealed(f"the copy has {found} commands, and its audit says {commands}")
 
 
 def put(line: LineFolder, made: Path) -> Sealed:
