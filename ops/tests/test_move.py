@@ -1,68 +1,54 @@
-"""tracedesk-move on desks of random messages: the new desk reports the same of a reel as the old
-one, and goes on alike.
+"""tracedesk-ops move between desks of random messages: the new desk reports the same of a reel as
+the old one, and goes on alike.
 
 Of each seed random messages are fed to an old desk, and the set-up of the same floor to a new one,
-whose clock is before, at or after the old one's, or which has accepted nothing. Each reel of the
-old desk is then moved, to a copy of the new one. Whether that is refused, and why, is worked out
-here from the tables.
+whose clock is before or at the old one's, or which has accepted nothing. Each reel of the old desk
+is then moved between served copies of both. Whether that is refused, and why, is worked out here
+from the tables.
 
     /usr/bin/python3 -m pytest ops/tests/test_move.py -m whole -n 4
 """
+from __future__ import annotations
+
 import contextlib
 import json
 import pathlib
-import sqlite3
-import subprocess
 import urllib.parse
-from typing import Any, Callable, Optional, Union
+from collections.abc import Iterator
+from typing import Any
 
 import pytest
 
-from lab import Answer
 from lab.desk import Desk
 from lab.floor import OLD_BOARDS, PARTS, Floor, say, texts
 from lab.line import table
 from lab.messages import Message
-from lab.tools import Word, call_tool, run, run_tool, strings, tool
-from tracedesk_ops import catalogue, copies, plant, sealing
-from tracedesk_ops.line import LineFolder
+from lab.tools import Ended, Word, call_tool, run_tool
+from tracedesk_ops import catalogue
+from tracedesk_ops.cmd import move
 
-REELS = 12  # of a seed
+REELS = 6  # of a seed
 MET = {  # what comes of the reels of the seeds in the gate, among others
-    3: {"moved", "moved, pieces too late", "ReelEmpty", "ReelMounted"},
-    4: {"moved", "ClockAhead", "ReelMounted"},
-    5: {"moved, pieces too late", "ClockAhead", "ReelEmpty"},
+    3: {"moved", "ReelEmpty", "ReelMounted"},
+    4: {"ClockAhead", "ReelMounted"},
 }
 LONG = [seed for seed in range(1, 101) if seed not in MET]
 SEEDS = [*MET, *(pytest.param(seed, marks=pytest.mark.whole) for seed in LONG)]
 LIMIT = {"2": 525_600, "2a": 40_320, "3": 10_080, "4": 4_320, "5": 2_880, "5a": 1_440}
-# How far the new desk's clock is behind the old one's, and how far --at is ahead of both.
-BEHIND = (None, -5_000, -60, -1, 0, 0, 1, 90, 1_500, 4_000, 30_000, 600_000)
-AHEAD = (None, None, None, 0, 45, 2_000, 45_000)
+# How far the new desk's clock is behind the old one's, and how far the move is ahead of both.
+BEHIND = (None, -60, -1, 0, 0, 1, 90, 1_500, 4_000, 30_000, 600_000)
+AHEAD = (0, 0, 45, 2_000, 45_000)
 STEPS = (0, 1, 60, 1_439, 3_000, 10_050)
 PAST = ("received", "placed", "scrapped")  # of a card: what each desk counts for itself
 
 
-def move(*words: Word) -> tuple[Union[str, list[Message]], str]:
-    """The messages that the tool prints, or the name of what it refuses; and what it says
-    besides."""
-    done = call_tool("move", *words)
-    lines = [line.partition(": ")[2] for line in done.err.splitlines()]
-    if done.status:
-        assert not done.out
-        return lines[0].partition(":")[0], "\n".join(lines)
-    return [json.loads(line) for line in done.out.splitlines()], "".join(f"{it}\n" for it in lines)
-
-
-def accept(desk: Desk, messages: list[Message]) -> list[Answer]:
-    """Feeds messages that all have to be Accepted; their answers."""
-    answers = desk.feed(texts(messages))
-    for message, answer in zip(messages, answers, strict=True):
+def accept(desk: Desk, messages: list[Message]) -> None:
+    """Feeds messages that all have to be Accepted."""
+    for message, answer in zip(messages, desk.feed(texts(messages)), strict=True):
         assert answer["Answer"] == "Accepted", f"{message} is answered {answer}"
-    return answers
 
 
-def minute_of(desk: Desk) -> Optional[int]:
+def minute_of(desk: Desk) -> int | None:
     ((minute,),) = desk.rows("SELECT max(effective) FROM accepted")
     return None if minute is None else int(minute)
 
@@ -79,6 +65,11 @@ def card_now(desk: Desk, reel: str) -> list[dict[str, str]]:
     ]
 
 
+def label_of(desk: Desk, reel: str) -> list[Word]:
+    rows = desk.rows("SELECT label FROM reel WHERE reel = ? AND level = '6'", reel)
+    return ["--label-minutes", rows[0][0]] if rows else []
+
+
 class Two:
     """Two desks, and copies of them."""
 
@@ -89,13 +80,24 @@ class Two:
     def copy(self, desk: Desk, name: str) -> Desk:
         """A copy under another name, in the place of an earlier one."""
         made = Desk(self.program, self.folder / name)
-        for tail in ("", *copies.LOGS):
-            pathlib.Path(f"{made.file}{tail}").unlink(missing_ok=True)
+        made.remove()
         made.copy_from(desk.file)
         return made
 
-    def way(self) -> list[Word]:
-        return ["--from", self.old.file, "--to", self.new.file]
+    @contextlib.contextmanager
+    def moved(self, reel: str, at: int, *more: Word) -> Iterator[tuple[Desk, Desk, Ended]]:
+        """The reel is moved between served copies of both, which are then stopped."""
+        goes, arrived = self.copy(self.old, "goes"), self.copy(self.new, "there")
+        words = [reel, "--at", catalogue.spelled(at), *label_of(self.old, reel), *more]
+        for desk, option in ((goes, "--from"), (arrived, "--to")):
+            desk.serve()
+            words += [option, desk.url]
+        try:
+            done = call_tool("move", *words)
+        finally:
+            goes.end()
+            arrived.end()
+        yield goes, arrived, done
 
 
 class Moving(Two):
@@ -122,7 +124,7 @@ class Moving(Two):
         reels = [reel for (reel,) in self.old.rows("SELECT reel FROM reel ORDER BY reel")]
         return self.random.sample(reels, min(REELS, len(reels)))
 
-    def wanted(self, reel: str, at: Optional[int]) -> str:
+    def wanted(self, reel: str, now: int) -> str:
         """The name of the refusal of a move, or none."""
         columns = "level, label, remaining, used, open_since, baked"
         ((level, label, remaining, used, since, baked),) = self.old.rows(
@@ -133,51 +135,32 @@ class Moving(Two):
         if self.old.rows("SELECT 1 FROM mount WHERE reel = ?", reel):
             return "ReelMounted"
         there = minute_of(self.new)
-        end = max(minute_of(self.old) or 0, there or 0) if at is None else at
-        out = used + (end - since if since >= 0 else 0)
+        out = used + (now - since if since >= 0 else 0)
         counts = level != "1" and (level != "6" or baked)
         out = min(out, label or LIMIT[level]) if counts else 0
-        return "ClockAhead" if there is not None and end - out < there else ""
+        return "ClockAhead" if there is not None and now - out < there else ""
 
     def try_reel(self, reel: str) -> str:
         """Moves a reel, and compares; what came of it."""
-        last = max(minute_of(self.old) or 0, minute_of(self.new) or 0)
-        ahead = self.random.choice(AHEAD)
-        at = None if ahead is None else last + ahead
-        words = [reel, *self.way(), *([] if at is None else ["--at", catalogue.spelled(at)])]
-        arrives, told = move(*words)
-        leaves, _ = move(*words, "--leaving")
-        refusal = self.wanted(reel, at)
-        if refusal or isinstance(arrives, str) or isinstance(leaves, str):
-            assert arrives == leaves == refusal, f"{reel}, --at {at}: {told}"
-            return refusal
-        end = last if at is None else at
-        arrived = self.copy(self.new, "there")
-        again = texts(arrives)
-        assert accept(arrived, arrives) == arrived.feed(
-            again
-        ), "sent again it is answered otherwise"
-        assert minute_of(arrived) == end
-        stays = self.copy(self.old, "stays")
-        accept(stays, [say("ClockSet", "on", end)])
-        assert card_now(arrived, reel) == card_now(stays, reel)
-        assert f"card of it has to be: {card(arrived, reel).splitlines()[1]}\n" in told
-        self.goes_for_good(reel, leaves)
-        return "moved, pieces too late" if self.goes_on(reel, arrived, stays, end) else "moved"
+        now = max(minute_of(self.old) or 0, minute_of(self.new) or 0) + self.random.choice(AHEAD)
+        with self.moved(reel, now) as (goes, arrived, done):
+            if refusal := self.wanted(reel, now):
+                done.expect(1, f": {refusal}: ")
+                assert (done.out, minute_of(arrived)) == ("", minute_of(self.new))
+                return refusal
+            done.expect()
+            for answer in arrived.feed(texts(map(json.loads, done.out.splitlines()))):
+                assert answer["Answer"] == "Accepted", "sent again it is answered otherwise"
+            stays = self.copy(self.old, "stays")
+            accept(stays, [say("ClockSet", "on", now)])
+            assert card_now(arrived, reel) == card_now(stays, reel)
+            assert minute_of(arrived) == now
+            assert table(card(goes, reel))[0]["remaining"] == "0"
+            self.goes_on(reel, arrived, stays, now)
+        return "moved"
 
-    def goes_for_good(self, reel: str, leaves: list[Message]) -> None:
-        """The old desk takes all of its pieces off, and doesn't count them twice where it is told
-        twice."""
-        goes = self.copy(self.old, "goes")
-        ((pieces,),) = goes.rows("SELECT remaining FROM reel WHERE reel = ?", reel)
-        before, answers = minute_of(goes), accept(goes, leaves)
-        assert [answer["Taken"] for answer in answers] == [pieces]
-        assert answers == goes.feed(texts(leaves))
-        assert table(card(goes, reel))[0]["remaining"] == "0" and minute_of(goes) == before
-
-    def goes_on(self, reel: str, arrived: Desk, stays: Desk, minute: int) -> int:
-        """Both get the same messages: answers, overdue lists and cards have to be the same; how
-        many pieces are overdue."""
+    def goes_on(self, reel: str, arrived: Desk, stays: Desk, minute: int) -> None:
+        """Both get the same messages: answers, overdue lists and cards have to be the same."""
         ((part,),) = stays.rows("SELECT part FROM reel WHERE reel = ?", reel)
         later = texts(self.later(reel, part, minute))
         answers = [
@@ -191,7 +174,6 @@ class Moving(Two):
             for desk in (arrived, stays)
         ]
         assert overdue[0] == overdue[1]
-        return len(overdue[0])
 
     def later(self, reel: str, part: str, minute: int) -> list[Message]:
         """The reel is loaded, pieces are placed before and after its floor life ends, and it is
@@ -237,32 +219,20 @@ def received(reel: str, level: str = "5a", **more: Any) -> Message:
 
 @pytest.fixture
 def two(program: pathlib.Path, folder: pathlib.Path) -> Two:
-    """An old desk at minute 1,000 with reels of all kinds, and a new one at minute 970."""
+    """An old desk at minute 1,000, and a new one at minute 970."""
     made = Two(program, folder)
-    row = {"Slot": "1", "PartNumber": "P", "Designators": ["R1"]}
-    names = ("fresh", "sealed", "open", "empty", "mounted", "there", "gone")
-    said = [
-        say("PartDefined", "p", 0, PartNumber="P"),
-        say("PartDefined", "q", 0, PartNumber="Q"),
-        say("SheetDefined", "s", 0, Product="PR", Machine="M", Rows=[row]),
-        say("ProductSelected", "t", 0, Machine="M", Product="PR"),
-        *map(received, names),
-        received("unbaked", "6", LabelMinutes=60),
-        received("free", "1"),
-        say("CountsTaken", "c", 0, Counts=[{"Reel": "empty", "Quantity": 0}]),
-        say("ReelOpened", "o1", 100, Reel="sealed"),
-        say("ReelSealed", "o2", 160, Reel="sealed"),
-        say("ReelOpened", "o3", 100, Reel="unbaked"),
-        say("ReelOpened", "o4", 100, Reel="free"),
-        say("ReelOpened", "o5", 980, Reel="open"),
-        say("MaterialsLoaded", "o6", 990, Machine="M", Slot="1", Reel="mounted"),
-        say("WorkStarted", "o7", 1_000, Machine="M", Board="B"),
-    ]
-    accept(made.old, said)
     counts = [{"Reel": "gone", "Quantity": 0}]
     said = [
+        say("PartDefined", "p", 0, PartNumber="P"),
+        *map(received, ("fresh", "sealed", "gone")),
+        received("unbaked", "6", LabelMinutes=60),
+        say("ReelOpened", "o1", 100, Reel="sealed"),
+        say("ReelSealed", "o2", 160, Reel="sealed"),
+        say("ClockSet", "o7", 1_000),
+    ]
+    accept(made.old, said)
+    said = [
         say("PartDefined", "p", 970, PartNumber="P"),
-        received("there"),
         received("gone"),
         say("CountsTaken", "c", 970, Counts=counts),
     ]
@@ -271,151 +241,59 @@ def two(program: pathlib.Path, folder: pathlib.Path) -> Two:
 
 
 @pytest.mark.parametrize(
-    "words, name, text",
+    "words, at, status, text",
     [
-        ("none", "UnknownReel", "look at its label"),
-        ("empty", "ReelEmpty", "nothing is left"),
-        (
-            "mounted",
-            "ReelMounted",
-            "on M, slot 1: complete board B, which is in work there, unload it",
-        ),
-        ("there", "ReelExists", "with 9 pieces left"),
-        ("gone", "ReelExists", "of which nothing is left"),
-        ("fresh --as gone", "ReelExists", "by --as"),
-        (
-            "sealed",
-            "ClockAhead",
-            (
-                "out for 60 minutes, so it has to begin at 1970-01-01 15:40 UTC, "
-                "and the new desk is at 1970-01-01 16:10 UTC: bake it"
-            ),
-        ),
-        ("sealed", "ClockAhead", "until 1970-01-01T17:10:00Z, and say that by --at"),
-        ("sealed --at 1970-01-01T17:09:00Z", "ClockAhead", "bake it"),
-        (
-            "sealed --at 1970-01-01T16:39:00Z",
-            "TimePast",
-            "the old desk is at 1970-01-01T16:40:00Z",
-        ),
+        ("none", 1_000, 1, "UnknownReel: http"),
+        ("gone", 1_000, 1, "ReelExists: http"),
+        ("fresh --as gone", 1_000, 1, "with 0 pieces left"),
+        ("sealed", 1_000, 1, "out for 60 minutes, so it has to begin at 1970-01-01T15:40:00Z"),
+        ("sealed", 1_030, 0, "sealed,P,L,5a,9,0,0,9,1380,sealed"),
+        ("unbaked", 1_000, 0, "unbaked,P,L,6,9,0,0,9,unbaked,sealed"),
+        ("gone --as gone-b", 1_000, 0, "gone-b,P,L,5a,9,0,0,9,1440,sealed"),
+        (f"fresh --as {'K' * 64}", 1_000, 0, "9,1440,sealed"),
     ],
 )
-def test_reel_that_is_refused(two: Two, words: str, name: str, text: str) -> None:
-    got, told = move(*words.split(), *two.way())
-    assert got == name and text in told, told
+def test_a_reel_is_refused_or_taken(two: Two, words: str, at: int, status: int, text: str) -> None:
+    reel, *more = words.split()
+    with two.moved(reel, at, *more) as (_, _, done):
+        done.expect(status, text)
 
 
-@pytest.mark.parametrize(
-    "words",
-    [
-        "fresh",
-        "open",
-        "unbaked",
-        "free",
-        "sealed --at 1970-01-01T17:10:00Z",
-        "gone --as gone-b",
-        f"there --as {'K' * 64}",
-    ],
-)
-def test_reel_that_is_taken(two: Two, words: str) -> None:
-    messages, told = move(*words.split(), *two.way())
-    assert not isinstance(messages, str), told
-    accept(two.new, messages)
+def test_a_reel_of_level_6_wants_the_minutes_of_its_label(two: Two) -> None:
+    with two.moved("unbaked", 1_000, "--label-minutes", 0) as (goes, _, done):
+        done.expect(1, "NoLabel")
+        assert table(card(goes, "unbaked"))[0]["remaining"] == "9"
 
 
-# --- How the tool itself ends
-
-
-@pytest.mark.parametrize("reel, status", [("fresh", 0), ("mounted", 1)])
-def test_the_tool_says_what_is_tried_above(two: Two, reel: str, status: int) -> None:
-    messages, told = move(reel, *two.way())
-    done = run_tool("move", reel, *two.way()).expect(status)
-    printed = [json.loads(line) for line in done.out.splitlines()]
-    assert printed == ([] if status else messages)
-    assert done.err == "".join(f"tracedesk-move: {line}\n" for line in told.splitlines())
-
-
-@pytest.mark.parametrize(
-    "words",
-    [
-        ["fresh", "--from", "{old}", "--to", "{old}"],
-        ["fresh", "--from", "{old}", "--to", "{new}", "--as", " x"],
-        ["fresh", "--from", "{old}"],
-    ],
-)
-def test_words_that_are_refused(two: Two, words: list[str]) -> None:
-    files = {"old": two.old.file, "new": two.new.file}
-    done = run_tool("move", *(word.format(**files) for word in words)).expect(2)
-    assert not done.out
-
-
-def test_full_disk(two: Two) -> None:
-    with open("/dev/full", "w") as full:
-        done = run([tool("move"), "fresh", *two.way()], out=full)
-    done.expect(1, "send none of them, make room")
-
-
-# --- Files
-
-
-def refused(two: Two) -> str:
-    name, _ = move("fresh", *two.way())
-    return str(name)
-
-
-def is_altered(two: Two) -> None:
-    """As a changed bit would."""
-    with contextlib.closing(sqlite3.connect(two.new.file)) as database, database:
-        database.execute("UPDATE reel SET lot = 'X' WHERE reel = 'there'")
-
-
-def is_full(two: Two) -> None:
-    two.new.remove()
-    (clock,) = texts([say("ClockSet", "f", 970)])
-    words: list[Word] = [two.program, "feed", "--db", two.new.file, "--greatest", 2]
-    run(words, given=clock + b"\n").expect()
-
-
-@pytest.mark.parametrize(
-    "happens, name",
-    [
-        (lambda two: two.new.file.write_text("no database\n" * 100), "NotADesk"),
-        (lambda two: two.new.file.unlink(), "Unreadable"),
-        (is_altered, "NotLawful"),
-        (is_full, "DeskFull"),
-    ],
-)
-def test_a_file_that_takes_no_reel(two: Two, happens: Callable[[Two], object], name: str) -> None:
-    happens(two)
-    assert refused(two) == name
-
-
-def test_desk_that_a_run_has_open(two: Two) -> None:
-    words = strings([two.program, "feed", "--db", two.new.file])
-    (clock,) = texts([say("ClockSet", "held", 970)])
-    with subprocess.Popen(words, stdin=subprocess.PIPE, stdout=subprocess.PIPE) as feed:
-        assert feed.stdin and feed.stdout
-        feed.stdin.write(clock + b"\n")
-        feed.stdin.flush()
-        feed.stdout.readline()
-        assert refused(two) == "InUse"
-        feed.stdin.close()
-
-
-def test_of_a_folder_the_newest_sealed_file_is_read(
-    program: pathlib.Path, folder: pathlib.Path
+def test_a_new_desk_that_is_full_ends_with_what_is_to_be_sent(
+    two: Two, monkeypatch: pytest.MonkeyPatch
 ) -> None:
-    floor, desks = Floor(1), [Desk(program, folder / name / "desk") for name in ("L1", "L2")]
-    for desk in desks:
-        accept(desk, list(floor.set_up()))
-    reel = "K-moved"
-    body = {"Reel": reel, "PartNumber": PARTS[0], "Lot": "L", "Level": "1", "Quantity": 7}
-    accept(desks[0], [floor.envelope("ReelReceived", "o", body)])
-    lines = [LineFolder(desk.file.parent) for desk in desks]
-    words: list[Word] = [reel, "--from", lines[0].path, "--to", lines[1].path]
-    assert move(*words)[0] == "Unreadable"
-    for line in lines:
-        sealing.seal(line, 0, plant.Program(str(program), line.desk).audit)
-    said, _ = move(*words)
-    assert said == move(reel, "--from", desks[0].file, "--to", desks[1].file)[0]
-    accept(desks[1], list(said))  # type: ignore[arg-type]  # messages, as they were printed
+    """As one that gives no answer any more."""
+    whole = move.said
+
+    def said(desk: Any, line: str, *known: str) -> Any:
+        if "ReelReceived" in line:
+            raise OSError("it has gone")
+        return whole(desk, line, *known)
+
+    monkeypatch.setattr(move, "said", said)
+    with two.moved("fresh", 1_000) as (goes, arrived, done):
+        done.expect(4, "send what was printed")
+        assert table(card(goes, "fresh"))[0]["remaining"] == "0"
+        accept(arrived, [json.loads(line) for line in done.out.splitlines()])
+        assert card_now(arrived, "fresh") == card_now(two.old, "fresh")
+
+
+def test_a_desk_that_gives_no_answer_changes_nothing(
+    two: Two, monkeypatch: pytest.MonkeyPatch
+) -> None:
+    monkeypatch.setattr(move, "PATIENCE", 0.2)
+    nobody = Desk(two.program, two.folder / "nobody").url
+    done = call_tool("move", "fresh", "--from", nobody, "--to", two.new.url)
+    assert (done.status, done.out) == (3, "")
+
+
+@pytest.mark.parametrize("to", ["http://127.0.0.1:1", "L9", "ftp://x"])
+def test_words_that_are_refused(to: str) -> None:
+    done = run_tool("ops", "move", "K", "--from", "http://127.0.0.1:1", "--to", to).expect(2)
+    assert not done.out and "Traceback" not in done.err

@@ -137,11 +137,8 @@ def test_names_in_another_locale(new_line: NewLine, folder: pathlib.Path) -> Non
 
 
 def test_unexpected_failure_has_a_status_of_its_own(line: Line) -> None:
-    line.end()
-    other = line.folder / "other"
-    shutil.copyfile(line.file, other)
-    change = "from tracedesk_ops import desk_tables; desk_tables.DeskTables = None"
-    run_changed("move", ["K1", "--from", line.file, "--to", other], change).expect(9, "foresaw")
+    change = "from tracedesk_ops import check; check.hindrances = None"
+    run_changed("ops", ["check", line.folder], change).expect(9, "foresaw")
 
 
 def test_what_cannot_be_printed_is_told(line: Line) -> None:

@@ -4,8 +4,7 @@ from __future__ import annotations
 import json
 import os
 import pathlib
-import shutil
-from typing import Any, Iterator
+from typing import Iterator
 
 import pytest
 from lab import files, messages, small
@@ -227,21 +226,9 @@ def test_words_that_are_not_taken(line: Line, words: str) -> None:
 # --- A reel that moved
 
 
-def moved(name: str, old: Line, new: Line, folder: pathlib.Path) -> None:
+def moved(name: str, old: Line, new: Line) -> None:
     """Moves the reel K-3 from one line to another under this name."""
-    files = {}
-    for way, line in (("--from", old), ("--to", new)):
-        line.end()
-        files[way] = folder / f"copy-{line.name}"
-        shutil.copy(line.file, files[way])
-        for log in line.folder.glob(f"{line.file.name}-wal"):
-            shutil.copy(log, f"{files[way]}-wal")
-        line.serve()
-    words: list[Any] = ["K-3", "--as", name, *(word for pair in files.items() for word in pair)]
-    leaves = run_tool("move", *words, "--leaving").expect().out.encode().splitlines()
-    arrives = run_tool("move", *words).expect().out.encode().splitlines()
-    old.accept(*leaves)
-    new.accept(*arrives)
+    run_tool("ops", "move", "K-3", "--as", name, "--from", old.url, "--to", new.url).expect()
 
 
 def test_a_reel_that_moved_is_followed_under_its_other_name(
@@ -250,7 +237,7 @@ def test_a_reel_that_moved_is_followed_under_its_other_name(
     lines = [new_line(folder / name, name, said=[]) for name in ("L1", "L2")]
     for line in lines:
         line.accept(*small.set_up(), *small.board("K-3", f"{line.name}-1"))
-    moved("K-3b", lines[0], lines[1], folder)
+    moved("K-3b", lines[0], lines[1])
     lines[1].accept(*small.board("K-3b", "L2-2", "CAP"))
     words: list[Word] = [word for line in lines for word in line.recall_words()]
     for name in ("K-3", "K-3b"):

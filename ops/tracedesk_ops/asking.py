@@ -7,7 +7,6 @@ from __future__ import annotations
 
 import csv
 import http.client
-import secrets
 import ssl
 import urllib.parse
 from collections.abc import Callable, Mapping
@@ -15,7 +14,7 @@ from typing import Any
 
 from tracedesk import Desk, NotTaken, NotThere, Refused
 
-from tracedesk_ops import model, plant, stored
+from tracedesk_ops import heads, plant
 
 REFUSED = (NotTaken, ValueError, csv.Error)  # the last two of a report that is none
 
@@ -87,7 +86,7 @@ class Once(Desk):
         """Whether the desk has accepted a UniqueID, by a message that it refuses in any case."""
         place = f"{self.name}/messages"
         try:
-            answer = self.ask(question(uid))
+            answer = self.ask(heads.question(uid).encode())
             if isinstance(answer, Refused):
                 return answer.refusal == "IdReused"
         except NotTaken:
@@ -109,12 +108,3 @@ class Once(Desk):
         """The last answer, as a Fault names it."""
         status, _, text = self.answers[-1][1].partition("\n")
         return f"status {status}: {text[:100].strip()}"
-
-
-def question(uid: str) -> bytes:
-    """A message that every desk refuses, and which tells whether the desk has accepted the
-    UniqueID:
-    it unloads a slot that no sheet names.
-    """
-    body = {"Machine": f"none-{secrets.token_hex(16)}", "Slot": "-"}
-    return stored.line(uid, model.SOURCE, 0, "MaterialsUnloaded", body).encode()

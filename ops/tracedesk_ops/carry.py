@@ -1,4 +1,4 @@
-"""What one desk's file says, told as messages to another desk: for roll-overs and tracedesk-move.
+"""What one desk's file says, told as messages to the desk that goes on from it: successor.py.
 
 An exposure counts the minutes in which a reel was open. So a reel that lay open for e minutes in
 all is told as one that was opened e minutes before the end, and is sealed at the end if it was

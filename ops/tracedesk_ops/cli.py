@@ -6,7 +6,7 @@ usage: tracedesk-ops make LINE [--from FOLDER]
        tracedesk-ops restore LINE [FILE] [--dry-run]
        tracedesk-ops rollover LINE [--due | --if-due] [--pieces N] [--with-board-in-work]
                                    [--at TIME]
-       tracedesk-ops import | label | events ..    each has a --help of its own
+       tracedesk-ops import | label | events | move ..    each has a --help of its own
 
   make      makes the first desk of a line, an empty one; or takes a folder of 1.0.0 over: its desk
             with its archives, and what restores had put aside
@@ -19,6 +19,7 @@ usage: tracedesk-ops make LINE [--from FOLDER]
   import    sends a desk the parts, alternates, reels or placements of a table
   label     prints labels of reels, for a label printer
   events    publishes over MQTT what changes at a line
+  move      moves a reel from one running desk to another
 
 LINE is its folder, its name in /etc/tracedesk/LINE.conf, or a folder in /var/lib/tracedesk.
 
@@ -188,7 +189,7 @@ SUBCOMMANDS: dict[str, Callable[[argparse.Namespace], int]] = {
 
 
 # Subcommands without a line's folder: each is a module of cmd, with words of its own.
-APART = {"import": "importing", "label": "labels", "events": "events"}
+APART = {"import": "importing", "label": "labels", "events": "events", "move": "move"}
 
 
 def line_named(name: str) -> LineFolder:

@@ -5,14 +5,13 @@
 from __future__ import annotations
 
 import contextlib
-import copy
 import functools
 import pathlib
 import sqlite3
-from collections.abc import Callable, Container
+from collections.abc import Callable
 from typing import Any, NamedTuple
 
-from tracedesk_ops import copies, heads, model, plant, sealed
+from tracedesk_ops import copies, heads, model, sealed
 
 FLOOR_LIFE = {
     "1": None,
@@ -122,25 +121,6 @@ class DeskTables:
             self.tapes.setdefault((machine, slot), []).append(self.reels[reel])
         self.in_work = rows("SELECT machine, board FROM board WHERE machine <> '' ORDER BY machine")
 
-    def of_one_reel(
-        self, name: str, called: str, known_parts: Container[str], minute: int
-    ) -> DeskTables:
-        """A desk that has nothing but this reel, as it is at that minute, under the name by which
-        it is called there.
-        """
-        it = copy.copy(self)
-        reel = self.reels[name]._replace(reel=called)
-        if not reel.runs():  # so there are no minutes to tell
-            reel = reel._replace(used=0, open_since=minute if reel.is_open() else -1)
-        it.parts, it.alternates, it.sheets, it.selected = (
-            [part for part in [reel.part] if part not in known_parts],
-            {},
-            {},
-            {},
-        )
-        it.reels, it.tapes, it.in_work, it.minute = {called: reel}, {}, [], minute
-        return it
-
 
 def known(database: sqlite3.Connection, begun: int) -> list[Known]:
     """The last UniqueIDs of each source, the newest first: their number, source and own minute.
@@ -159,13 +139,3 @@ def known(database: sqlite3.Connection, begun: int) -> list[Known]:
         WHERE place <= ?5 ORDER BY turn DESC""",
         [begun, source, numbered, model.SOURCE, KNOWN],
     ).fetchall()
-
-
-def judged(path: pathlib.Path, program: str) -> DeskTables:
-    """What the tables of a desk's file say, once an audit has found its copy lawful: else a changed
-    bit would go to another desk.
-    """
-    with copies.copied(path) as copy_of_it:
-        archive = DeskTables(copy_of_it, copies.database)
-        plant.Program(program, copy_of_it).audit(copy_of_it)
-        return archive

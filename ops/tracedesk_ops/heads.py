@@ -72,10 +72,16 @@ def has_minute(port: int) -> bool:
     """Whether the desk that runs on a port of this machine has accepted something. The first
     command of one sets its minute.
     """
-    name = f"none-{secrets.token_hex(16)}"
-    body = {"Machine": name, "Slot": "-"}
-    question = stored.line(name, model.SOURCE, LAST_MINUTE, "MaterialsUnloaded", body)
-    return said(port, question).get("Refusal") == "TooFarAhead"
+    asked = question(f"none-{secrets.token_hex(16)}", LAST_MINUTE)
+    return said(port, asked).get("Refusal") == "TooFarAhead"
+
+
+def question(uid: str, minute: int = 0) -> str:
+    """A message that every desk refuses, and which tells whether it has accepted the UniqueID, or
+    whether the minute is too far ahead of it: it unloads a slot that no sheet names.
+    """
+    body = {"Machine": f"none-{secrets.token_hex(16)}", "Slot": "-"}
+    return stored.line(uid, model.SOURCE, minute, "MaterialsUnloaded", body)
 
 
 def give(port: int, uids: list[str]) -> None:
