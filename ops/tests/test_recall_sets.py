@@ -44,7 +44,7 @@ def book(line: Line, folder: pathlib.Path) -> Iterator[pathlib.Path]:
     file.write_text(ATTRIBUTES)
     yield file
     (line.archive / attributes.FILE_NAME).unlink(missing_ok=True)
-    attributes.note_of(line.archive).unlink(missing_ok=True)
+    attributes.BOOK.paths(line.archive)[1].unlink(missing_ok=True)
 
 
 def recall(line: Line, *words: Word) -> Ended:
@@ -180,7 +180,7 @@ def test_a_file_that_is_no_table_of_reels_gives_nothing(
 
 
 def damage(kind: str, line: Line, older: bytes) -> None:
-    book, head = line.archive / attributes.FILE_NAME, attributes.note_of(line.archive)
+    book, head = line.archive / attributes.FILE_NAME, attributes.BOOK.paths(line.archive)[1]
     if kind == "changed":
         book.write_bytes(book.read_bytes().replace(b"2609", b"2614"))
     if kind == "gone":

@@ -4,25 +4,15 @@ import json
 import os
 import pathlib
 import random
-from typing import Callable
 
 import pytest
 from lab.killed import killed_at
 from lab.records import a_record, boards, make_inbox
-from tracedesk_ops import catalogue, collecting, plant, untraced
+from tracedesk_ops import catalogue, collecting, untraced
 
 ALL = ["B0", "B1", "B2"]
 REFUSED_AT = catalogue.spelled(5)
 MOST_WRITES = 100  # of a collect
-DAMAGES: dict[str, Callable[[bytes], bytes]] = {
-    "a digit of a row": lambda text: text.replace(b"B1", b"B7", 1),
-    "cut by a row": lambda text: b"\n".join(text.split(b"\n")[:-2]) + b"\n",
-    "without a row in the middle": lambda text: b"\n".join(
-        text.split(b"\n")[:1] + text.split(b"\n")[2:]
-    ),
-    "another header": lambda text: b"x" + text,
-    "an empty file": lambda text: b"",
-}
 
 
 # --- The file
@@ -49,21 +39,6 @@ def archive(folder: pathlib.Path) -> pathlib.Path:
     made = make_inbox(folder / "line")
     collecting.collect(made)
     return made
-
-
-@pytest.mark.parametrize("name", [*DAMAGES, "gone"])
-def test_readers_and_collect_name_a_damage(archive: pathlib.Path, name: str) -> None:
-    file = archive / untraced.FILE_NAME
-    text = file.read_bytes()
-    if name == "gone":
-        file.unlink()
-    else:
-        file.write_bytes(DAMAGES[name](text))
-    assert untraced.read(archive).faults
-    with pytest.raises(plant.Fault):
-        collecting.collect(archive)
-    file.write_bytes(text)
-    assert boards(archive) == ALL
 
 
 @pytest.mark.parametrize("became", ["used as it is", "taken off"])

@@ -10,10 +10,12 @@ from tracedesk_ops.line import LineFolder
 
 Path = pathlib.Path
 
+BOOKS = (untraced.BOOK, attributes.BOOK)
+
 
 def heads_of(archive: Path) -> list[str]:
     """The heads of a line's books, but of one that has no row, or is damaged."""
-    return [uid for uid in (untraced.head_of(archive), attributes.head_of(archive)) if uid]
+    return [uid for uid in (its.head_of(archive) for its in BOOKS) if uid]
 
 
 def record(archive: Path) -> bool:
@@ -35,7 +37,5 @@ def faults_of(line: LineFolder) -> list[str]:
 
 def stamps_of(archive: Path) -> list[tuple[int, int]]:
     """What changes if a row comes to a book of the line, or is noted, or if it is another file."""
-    paths = [archive / untraced.FILE_NAME, untraced.inbox_of(archive) / untraced.COLLECTED]
-    paths += [archive / attributes.FILE_NAME, attributes.note_of(archive)]
-    stats = [path.stat() for path in paths if path.exists()]
+    stats = [path.stat() for its in BOOKS for path in its.paths(archive) if path.exists()]
     return [(its.st_ino, its.st_mtime_ns) for its in stats]

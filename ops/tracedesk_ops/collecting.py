@@ -6,12 +6,10 @@ from __future__ import annotations
 
 import datetime
 import json
-import os
 import pathlib
-from collections.abc import Iterable
 from typing import Any
 
-from tracedesk_ops import catalogue, files, inboxes, plant, untraced
+from tracedesk_ops import files, inboxes, untraced
 
 
 def collect(archive: pathlib.Path) -> tuple[list[untraced.Record], int, list[str]]:
@@ -20,61 +18,20 @@ def collect(archive: pathlib.Path) -> tuple[list[untraced.Record], int, list[str
     """
     archive = pathlib.Path(archive)
     with files.held(archive):
-        records, faults = untraced.rows_of(archive)
-        inbox, path = untraced.inbox_of(archive), archive / untraced.FILE_NAME
-        if faults and not (records and not untraced.collected_in(inbox)[0] and inbox.is_dir()):
-            raise plant.Fault(faults[0])
+        found, inbox = untraced.BOOK.to_extend(archive), untraced.inbox_of(archive)
         waiting = untraced.waiting_in(inbox)
-        known = {it.id for it in records}
+        known = {it.id for it in found.values}
         new = [it for name, it in waiting.records.items() if name not in known]
-        if new:
-            append(path, records, new)
-        if new or len(records) != untraced.collected_in(inbox)[0]:
-            records += new
-            note(inbox, records)
+        found = untraced.BOOK.extend(archive, found, new)
         for file in waiting.files:
             file.unlink(missing_ok=True)
-        return records, len(new), [*waiting.faults, *inboxes.limit(inbox)]
+        return found.values, len(new), [*waiting.faults, *inboxes.limit(inbox)]
 
 
 def place_of(inbox: pathlib.Path, record: untraced.Record) -> pathlib.Path:
     """Where a record waits."""
     folder = inbox.parent / inboxes.DECIDED if record.told["Kind"] == "decided" else inbox
     return folder / f"{record.id}.json"
-
-
-def append(path: pathlib.Path, records: list[untraced.Record], new: list[untraced.Record]) -> None:
-    """Writes the rows of new records behind those that are there, and waits until they are on disk.
-    What a killed call left of a row goes.
-    """
-    before = untraced.BEGIN
-    for it in records:
-        before = untraced.chained(before, it)
-    rows: list[Iterable[str]] = []
-    if not records and not (
-        path.exists() and path.read_bytes().startswith(",".join(untraced.HEADER).encode() + b"\n")
-    ):
-        rows.append(untraced.HEADER)
-    for it in new:
-        before = untraced.chained(before, it)
-        rows.append(untraced.row_of(it, before))
-    with open(path, "a+b") as file:
-        file.seek(0)
-        kept = file.read()
-        file.truncate(kept.rfind(b"\n") + 1)
-        file.write(catalogue.csv_text(rows).encode())
-        file.flush()
-        os.fsync(file.fileno())
-    files.keep(path.parent)
-
-
-def note(inbox: pathlib.Path, records: list[untraced.Record]) -> None:
-    chain = untraced.BEGIN
-    for it in records:
-        chain = untraced.chained(chain, it)
-    files.put(
-        inbox / untraced.COLLECTED, json.dumps({"Rows": len(records), "Chain": chain}) + "\n", 0o644
-    )
 
 
 def now() -> str:

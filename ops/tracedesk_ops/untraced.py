@@ -9,15 +9,10 @@ Senders put records into the line's folder `untraced`. `collect` appends each of
     id,kind,at,machine,board,what,refusal,place,source,by,of,became,reason,record,chain
 
 `record` is the whole record as its sender wrote it, and `id` the first 32 digits of its SHA-256;
-the columns before it are for readers. `chain` is the SHA-256 of the row's record and of the chain
-of the row before it. A row is never changed. How many rows there are, and the last chain, are also
-in the inbox (`collected.json`): so a file that was cut, replaced by an older one, or is gone is
-noticed.
+the columns before it are for readers. It is a book: book.py.
 """
 from __future__ import annotations
 
-import contextlib
-import csv
 import hashlib
 import json
 import pathlib
@@ -25,7 +20,7 @@ from collections.abc import Iterable
 from typing import Any, NamedTuple
 
 from tracedesk import records as sent
-from tracedesk_ops import catalogue, files, heads, inboxes, model
+from tracedesk_ops import book, catalogue, files, heads, inboxes, model
 
 FILE_NAME, COLLECTED, STATUS = "untraced.csv", "collected.json", "untraced.json"
 HEADER = tuple(
@@ -34,11 +29,9 @@ HEADER = tuple(
 # columns of tables for readers
 WORK = ("at", "machine", "board", "work", "refusal", "place", "source")
 OUTCOME = ("became", "decided_by", "reason")
-KIND = "untraced"  # of the file's heads, which the line's desk records
 LOST = "lost"  # in place of an id: the rows that no copy has
 SCRAPPED = "scrapped"  # what became of a board: nothing else takes it out of recalls
 HANDLING = ("MaterialsLoaded", "MaterialsSpliced", "MaterialsUnloaded")
-BEGIN = "0" * 64
 MOST_DECIDED = 1_000  # ids that the status file names
 # bytes of a record: a message has 1,048,576 at most, and is there as read and as it came
 LONGEST = 4 << 20
@@ -53,7 +46,7 @@ class Record(NamedTuple):
     text: str
 
 
-class Book(NamedTuple):
+class Known(NamedTuple):
     """What a line's file and inbox say: records in the order in which they came, and what is
     wrong.
     """
@@ -111,9 +104,9 @@ def in_one_line(record: Record) -> list[str]:
     return [*map(catalogue.printable, columns(record))]
 
 
-def row_of(record: Record, chain: str) -> list[str]:
-    """The row of a record behind which the file has this chain."""
-    return [*in_one_line(record), record.text, chain]
+def row_of(record: Record) -> list[str]:
+    """The row of a record, but for its chain."""
+    return [*in_one_line(record), record.text]
 
 
 def columns(record: Record) -> list[str]:
@@ -170,20 +163,27 @@ def is_work(record: Record) -> bool:
     return word_of(record) not in HANDLING
 
 
-def chained(before: str, record: Record) -> str:
-    return hashlib.sha256(f"{before}\n{record.text}\n".encode()).hexdigest()
-
-
 def is_read_back(record: Record) -> bool:
     """Whether the row of a record is read as it is written; no other row is written."""
-    rows = [row_of(record, BEGIN)]
+    rows = [row_of(record)]
     return [*catalogue.csv_rows(catalogue.csv_text(rows))] == rows
+
+
+BOOK: book.Form[Record] = book.Form(
+    FILE_NAME,
+    COLLECTED,
+    "untraced",
+    HEADER,
+    row_of,
+    lambda row: record_of(row[-1].encode() + b"\n"),
+    lambda record: f"{record.text}\n",
+)
 
 
 # --- Reading
 
 
-def read(archive: pathlib.Path) -> Book:
+def read(archive: pathlib.Path) -> Known:
     """The records of a line, those of its inbox last, and what is wrong with its files. Nothing is
     written.
     """
@@ -195,88 +195,13 @@ def read(archive: pathlib.Path) -> Book:
         wrong = f"{fault.filename}: it can't be read: is untraced work in it? {fault.strerror}"
         waiting = Waiting({}, [], [wrong])
     new = [it for name, it in waiting.records.items() if name not in known]
-    return Book(rows + new, faults + waiting.faults)
+    return Known(rows + new, faults + waiting.faults)
 
 
 def rows_of(archive: pathlib.Path) -> tuple[list[Record], list[str]]:
     """The records of the line's file, and what is wrong with it."""
-    path, inbox = pathlib.Path(archive) / FILE_NAME, inbox_of(archive)
-    try:
-        count, chain = collected_in(inbox)
-        text = path.read_bytes() if path.exists() else b""
-    except (OSError, ValueError) as fault:
-        return [], [
-            f"{getattr(fault, 'filename', None) or inbox / COLLECTED}: it can't be read, so it"
-            f" isn't known whether work was untraced: {fault}"
-        ]
-    records, chains, wrong = parsed(path, text)
-    if wrong:
-        return records, [wrong]
-    if len(records) < count or (count and chains[count - 1] != chain):
-        why = (
-            "is gone"
-            if not text
-            else "has fewer rows"
-            if len(records) < count
-            else "is another file"
-        )
-        return records, [
-            f"{path}: it {why}: {inbox / COLLECTED} names {count} rows and another last one. Take"
-            " it from a copy"
-        ]
-    if records and not count:
-        return records, [
-            f"{inbox / COLLECTED}: it is gone, or the folder isn't there, so records may be"
-            f" missing: bring the folder {inbox.name} back, then call tracedesk-untraced collect"
-        ]
-    return records, []
-
-
-def collected_in(inbox: pathlib.Path) -> tuple[int, str]:
-    """How many rows were collected from the inbox, and the chain of the last one."""
-    try:
-        told = json.loads((inbox / COLLECTED).read_text(encoding="ascii"))
-        return int(told["Rows"]), str(told["Chain"])
-    except FileNotFoundError:
-        return 0, BEGIN
-    except (KeyError, TypeError, UnicodeDecodeError) as fault:
-        raise ValueError(f"it is damaged: {fault!r}") from fault
-
-
-def parsed(path: pathlib.Path, text: bytes) -> tuple[list[Record], list[str], str]:
-    """The records of a file's whole lines and their chains, and what is wrong; a last line without
-    its end was cut off, and is none yet.
-    """
-    records: list[Record] = []
-    chains: list[str] = []
-    before = BEGIN
-    lines = text[: text.rfind(b"\n") + 1].decode("utf-8", "replace")
-    rows = catalogue.csv_rows(lines)
-    try:
-        for number, row in enumerate(rows):
-            if number == 0:
-                if row != list(HEADER):
-                    return records, chains, f"{path}, line 1: the header is not {','.join(HEADER)}"
-                continue
-            record = record_of(row[13].encode() + b"\n") if len(row) == len(HEADER) else None
-            if record is None or row != row_of(record, before := chained(before, record)):
-                return (
-                    records,
-                    chains,
-                    (
-                        f"{path}, line {rows.line_num}: it is not as it was written, nor is what"
-                        " follows it. Take the file from a copy"
-                    ),
-                )
-            records.append(record)
-            chains.append(before)
-    except (csv.Error, ValueError) as fault:
-        return (
-            records,
-            chains,
-            f"{path}, line {max(1, rows.line_num)}: {fault}. Take the file from a copy",
-        )
-    return records, chains, ""
+    found = BOOK.read(archive)
+    return found.values, [found.fault] if found.fault else []
 
 
 class Waiting(NamedTuple):
@@ -339,24 +264,12 @@ def undecided(records: list[Record]) -> list[Record]:
     return [it for it in its if is_work(it) and it.id not in decided]
 
 
-def head_of(archive: pathlib.Path) -> str:
-    """The head of the line's file, which its desk records; empty if it has no row, or is not as it
-    was written. A row that isn't noted may not be on disk yet.
-    """
-    with contextlib.suppress(OSError, ValueError):
-        count, chain = collected_in(inbox_of(archive))
-        if count and not rows_of(archive)[1]:
-            return heads.book_head(KIND, chain)
-    return ""
-
-
 def lost(archive: pathlib.Path, recorded: Iterable[str]) -> list[str]:
     """The heads that desks have recorded of the line's file, and whose rows it lacks, but those
     about which somebody decided. `recorded` has the heads in all files of their chains.
     """
-    path = archive / FILE_NAME
-    records, chains, _ = parsed(path, path.read_bytes() if path.exists() else b"")
-    return heads.lost(KIND, chains, set(recorded) - decisions(records).keys())
+    decided = decisions(rows_of(archive)[0])
+    return [uid for uid in BOOK.lost(archive, recorded) if uid not in decided]
 
 
 def missing(archive: pathlib.Path, recorded: Iterable[str]) -> list[str]:
@@ -368,4 +281,4 @@ def missing(archive: pathlib.Path, recorded: Iterable[str]) -> list[str]:
         more = f"; if none has it, call tracedesk-untraced decide {LOST}"
         return [f"{heads.lacked_by(path)}{more}"] if lost(archive, recorded) else []
     except OSError as fault:
-        return [f"{path}: it can't be read: {fault}. Take it from a copy"]
+        return [f"{path}: it can't be read: {fault}. Take it from a mirror"]
