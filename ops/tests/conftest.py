@@ -1,6 +1,5 @@
 """The fixtures of the tests of ops/. The conftest.py at the top has the options, markers and
 programs."""
-import os
 import pathlib
 import tempfile
 from typing import Iterator
@@ -18,12 +17,6 @@ from lab.line import Line, NewLine  # noqa: E402
 from lab.machine import Machine  # noqa: E402
 from lab.shifted import Shifted  # noqa: E402
 from lab.world import World  # noqa: E402
-
-
-@pytest.fixture(scope="session", autouse=True)
-def quick_tools() -> None:
-    """Tools wait a moment for senders, and not a second, unless a test says otherwise."""
-    os.environ.setdefault("TRACEDESK_QUIET", lines.QUIET)
 
 
 @pytest.fixture

@@ -22,8 +22,6 @@ from tracedesk_ops import catalogue, copies, files, places, sealed
 
 NAME = pathlib.Path(sys.argv[0]).name
 SECONDS_A_MILLION = 19  # of a start, for a million placed pieces: docs/figures.md, "A file's start"
-# seconds without a connection, after which nobody waits for an answer; tests are in a hurry
-QUIET = float(os.environ.get("TRACEDESK_QUIET", 1))
 PATIENCE = 120  # seconds that a start may take beside what the pieces ask for
 NEXT = "\n"
 LIBC, PR_SET_PDEATHSIG = ctypes.CDLL(None), 1
@@ -239,7 +237,7 @@ def wait_for_lock(take: Callable[[], object], seconds: float, held: str) -> None
         except BlockingIOError:
             if time.monotonic() > end:
                 raise Fault(f"{held}, for {seconds} seconds now: end it, or wait for it") from None
-        if not is_told and time.monotonic() > end - seconds + 10 * QUIET:
+        if not is_told and time.monotonic() > end - seconds + 10:
             tell(f"{held}; it is waited for")
             is_told = True
         time.sleep(0.1)

@@ -59,7 +59,7 @@ class NewDesk(Protocol):
 class Stops(Protocol):
     """The desk's service: service.py."""
 
-    def drain(self, gives_up: bool = False) -> None:
+    def drain(self) -> None:
         ...
 
     def stop(self) -> None:
@@ -184,7 +184,7 @@ def begun_from(line: LineFolder, new: NewDesk, file: Sealed) -> NewDesk:
 def stopped(service: Stops, pieces: int) -> Iterator[None]:
     """Stops the service meanwhile; it is started again whatever happens."""
     try:
-        service.drain(gives_up=True)
+        service.drain()
         service.stop()
         yield
     finally:

@@ -3,19 +3,17 @@ from __future__ import annotations
 
 import argparse
 import http.client
-import pathlib
 import re
 import socket
 import subprocess
 import time
 
 from tracedesk import Desk
-from tracedesk_ops.plant import PATIENCE, QUIET, Fault, as_caller, is_open, start_seconds, tell
+from tracedesk_ops.plant import PATIENCE, Fault, as_caller, is_open, start_seconds, tell
 from tracedesk_ops.plant import wait_until_closed
 
 SECONDS = 20  # that an answer may take
 CLOSING = 5  # seconds within which a service that closed its file gives up its port
-CONNECTED, LISTENING = ("01", "08"), "0A"  # in /proc/net/tcp: open, or closed by the client alone
 
 
 class Service:
@@ -40,53 +38,29 @@ class Service:
         self.starts = always or self.cut_off or is_open(asked.db)
         self.stopped: float | None = None  # since when
 
-    def drain(self, gives_up: bool = False) -> None:
-        """Sends new senders away, and waits until those that are in have their answers. Where
-        somebody stays it goes on, or gives up.
+    def drain(self) -> None:
+        """Sends new senders away, and waits until those that the proxy let in have their answers.
+        One that is at the desk's own port has to send again what it has no answer to.
         """
         opened, taken = self.db.exists() and is_open(self.db), self.is_taken()
-        if self.db.exists() and not opened and taken:
+        if opened != taken and self.db.exists():
+            what = "a run has" if opened else "no run has"
+            answers = "nothing" if opened else "something"
             raise Fault(
-                f"no run has {self.db} open, and something answers on port {self.port}: say by"
-                " --port where this desk answers"
-            )
-        if gives_up and opened and not taken:
-            raise Fault(
-                f"a run has {self.db} open, and nothing answers on port {self.port}: say by --port"
+                f"{what} {self.db} open, and {answers} answers on port {self.port}: say by --port"
                 " where this desk answers"
             )
         with as_caller():
             if self.drained.parent.is_dir():
                 self.drained.touch()
         end = time.monotonic() + self.drain_seconds
-        while self.requests() and time.monotonic() < end:
-            time.sleep(0.05)
-        if self.is_quiet():
-            return
-        told = f"after {self.drain_seconds:g} seconds somebody still sends to port {self.port}"
-        if gives_up:
-            raise Fault(
-                f"{told}: stop that sender, or let it send through the proxy; or wait longer, by"
-                " --drain-seconds"
-            )
-        tell(
-            f"{told}; the service is stopped nevertheless, and the sender has to send again what it"
-            " has no answer to"
-        )
-
-    def is_quiet(self) -> bool:
-        """Waits until nobody has sent for a while; whether that comes in time."""
-        met, quiet = connections(self.port)[1], time.monotonic()
-        end = quiet + self.drain_seconds
-        while time.monotonic() - quiet < QUIET:
-            connected, those = connections(self.port)
-            if connected or those - met:
-                quiet = time.monotonic()
-            met |= those
+        while self.requests():
             if time.monotonic() > end:
-                return False
+                raise Fault(
+                    f"after {self.drain_seconds:g} seconds the proxy still has requests for the"
+                    " desk: wait longer, by --drain-seconds"
+                )
             time.sleep(0.05)
-        return True
 
     def requests(self) -> int:
         """How many requests the proxy has that it may still hand to the desk: it tells those that
@@ -171,19 +145,3 @@ def get(port: int, target: str) -> str | None:
             return body.decode("utf-8", "replace")
     except (OSError, http.client.HTTPException):
         return None
-
-
-def connections(port: int) -> tuple[int, set[frozenset[str]]]:
-    """How many connections there are to a port of this machine, the waiting ones too; and all that
-    were there in the last minute.
-    """
-    lines = pathlib.Path("/proc/net/tcp").read_text(encoding="ascii").splitlines()[1:]
-    ends = f":{port:04X}"
-    fields = [
-        it
-        for it in map(str.split, lines)
-        if it[3] != LISTENING and (it[1].endswith(ends) or it[2].endswith(ends))
-    ]
-    return sum(1 for it in fields if it[1].endswith(ends) and it[3] in CONNECTED), {
-        frozenset(it[1:3]) for it in fields
-    }

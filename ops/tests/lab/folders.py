@@ -87,7 +87,7 @@ class Senders:
     def __init__(self, line: LineFolder, said: list[tuple[str, str]]) -> None:
         self.line, self.said, self.is_running, self.have_said = line, said, True, False
 
-    def drain(self, gives_up: bool = False) -> None:
+    def drain(self) -> None:
         self.have_said = True
         with files.opened(self.line.desk) as database:
             for said in self.said:

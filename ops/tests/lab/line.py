@@ -12,15 +12,12 @@ from lab.waits import PATIENCE
 from tracedesk_ops import around, catalogue, lineage, sealed
 from tracedesk_ops.line import LineFolder
 
-QUIET = "0.1"  # seconds without a connection, after which tools take senders for gone
 OWN_COMMANDS = """SELECT uid FROM accepted WHERE source <> 'tracedesk' AND number >
     (SELECT coalesce(max(number), 0) FROM accepted WHERE uid LIKE 'begin-%')"""
 
 
 class Line(Desk):
     """A line in a folder, which may be that of other lines; `desk` is the name of its file."""
-
-    quiet = QUIET
 
     def __init__(
         self,
@@ -72,9 +69,8 @@ class Line(Desk):
         env: Optional[Mapping[str, str]] = None,
     ) -> Ended:
         """Calls a tool, which may make no file larger than a limit."""
-        own = {"TRACEDESK_QUIET": self.quiet}
-        if program:  # of `wrapped`: tracedesk-chain lies next to it
-            own["CHAIN"] = str(program.with_name("tracedesk-chain"))
+        # of `wrapped`: tracedesk-chain lies next to it
+        own = {"CHAIN": str(program.with_name("tracedesk-chain"))} if program else {}
         return run(words, env={**own, **(env or {})}, limit=limit)
 
     def recall_words(self) -> list[Word]:

@@ -78,8 +78,6 @@ def simulated() -> Iterator[None]:
 class Place(Line):
     """The line whose desk the runs share, with the folders of its senders."""
 
-    quiet = "0.02"
-
     def __init__(self, program: pathlib.Path, folder: pathlib.Path) -> None:
         super().__init__(program, folder)
         self.untraced, self.spools = folder / "untraced", folder / "spools"
