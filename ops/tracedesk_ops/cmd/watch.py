@@ -30,7 +30,6 @@ from __future__ import annotations
 
 import argparse
 import collections
-import contextlib
 import csv
 import datetime
 import http.client
@@ -38,27 +37,26 @@ import json
 import os
 import pathlib
 import shutil
-import signal
 import ssl
 import subprocess
 import sys
 import time
-import urllib.parse
-from collections.abc import Callable, Generator, Iterator
+from collections.abc import Callable, Generator
 from typing import Any
 
+from tracedesk import Desk, NotTaken, NotThere, Refused
 from tracedesk import words as reports
-from tracedesk_ops import asking, files, metrics, model, options, places, plant
+from tracedesk_ops import files, heads, metrics, model, options, places, plant
 from tracedesk_ops import reader_of, sealed_watch, untraced
 
 TO = pathlib.Path("/run/tracedesk-watch/metrics")
 SETUP = pathlib.Path("/etc/tracedesk/station/setup.json")
 CLOCK = pathlib.Path("/run/tracedesk-clock/desk.json")  # ops/tracedesk-clock writes it
 HEALTH = "https://127.0.0.1/health"
-SECONDS_FOR_A_FILE, SECONDS_FOR_NGINX = 10, 15  # packaging/nginx.conf waits less for the desk
-ANSWERS = 3  # all of them together take as long as so many that take the longest
+SECONDS_FOR_SYSTEMD, SECONDS_FOR_NGINX = 10, 15  # packaging/nginx.conf waits less for the desk
 FAULTS = (
     *plant.FAULTS[:-1],
+    NotTaken,
     http.client.HTTPException,
     ValueError,
     LookupError,
@@ -69,21 +67,6 @@ FAULTS = (
     subprocess.SubprocessError,
     csv.Error,
 )
-
-
-@contextlib.contextmanager
-def within(seconds: float) -> Iterator[None]:
-    """Ends what takes longer with a TimeoutError."""
-
-    def end(*_: object) -> None:
-        raise TimeoutError(f"no end after {seconds:g} seconds")
-
-    signal.signal(signal.SIGALRM, end)
-    signal.setitimer(signal.ITIMER_REAL, max(0.001, seconds))
-    try:
-        yield
-    finally:
-        signal.setitimer(signal.ITIMER_REAL, 0)
 
 
 def is_there(path: str | pathlib.Path) -> bool:
@@ -100,23 +83,45 @@ def read_if_there(path: pathlib.Path) -> Any:
     return json.loads(path.read_bytes()) if is_there(path) else None
 
 
-class WatchedDesk(asking.Once):
-    """The running desk, which has little time for each answer, and for all of them."""
-
-    def __init__(self, port: int, seconds: float) -> None:
-        super().__init__(f"http://127.0.0.1:{port}", seconds)
-        self.end = time.monotonic() + ANSWERS * seconds
+class Once(Desk):
+    """The running desk, or nginx, which is asked once, by a connection of its own: so nobody waits
+    for the watch.
+    """
 
     def until(self, call: Callable[[], tuple[Any, str, float]]) -> Any:
-        with within(min(self.timeout, self.end - time.monotonic())):
-            return super().until(call)
+        self.headers["Connection"] = "close"
+        try:
+            with self.within(None, lambda: None):
+                found, why, _ = call()
+        finally:
+            self.close()
+        if found is None:
+            raise NotTaken(why)
+        return found
+
+    def rows(self, path: str, **asked: Any) -> list[Any]:
+        """The rows of a report; none if the desk doesn't know what is asked."""
+        try:
+            return self.report(path, **asked)
+        except NotThere as answer:
+            if answer.kind == "Path":
+                raise NotTaken("no desk answers") from None
+            return []
+
+    def has(self, uid: str) -> bool:
+        """Whether the desk has accepted a UniqueID, by a message that it refuses in any case."""
+        answer = self.ask(heads.question(uid).encode())
+        if not isinstance(answer, Refused):
+            raise NotTaken(f"it can't be asked which desk it is: {answer}")
+        return answer.refusal == "IdReused"
 
 
 class Watch:
     """The sources: each yields its samples. Those before a fault stay."""
 
     def __init__(self, asked: argparse.Namespace) -> None:
-        self.asked, self.desk = asked, WatchedDesk(asked.port, asked.timeout)
+        self.asked = asked
+        self.desk = Once(f"http://127.0.0.1:{asked.port}", timeout=asked.timeout)
         self.is_up = False
         self.sealed = asked.db.with_name(model.SEALED)
 
@@ -156,28 +161,25 @@ class Watch:
 
     def proxy(self) -> metrics.Samples:
         """Whether nginx answers. It is on this machine, so its certificate is not looked at."""
-        url = urllib.parse.urlsplit(self.asked.health)
         trust = ssl.SSLContext(ssl.PROTOCOL_TLS_CLIENT)
         trust.check_hostname, trust.verify_mode = False, ssl.CERT_NONE
-        link = http.client.HTTPSConnection(str(url.hostname), url.port, context=trust)
-        with within(SECONDS_FOR_NGINX), contextlib.closing(link):
-            link.request("GET", url.path, headers={"Connection": "close"})
-            link.getresponse().read()
+        nginx = Once(self.asked.health, trust, timeout=SECONDS_FOR_NGINX)
+        nginx.until(lambda: (nginx.once("GET", "", None, {}), "", 0.0))
         yield from ()
 
     def reports(self) -> metrics.Samples:
         """What is overdue, and of each machine what ends first."""
         if not self.is_up:
             raise plant.Fault("the desk is not asked for them: it is down")
-        yield "overdue_pieces", len(self.desk.rows("/overdue") or []), {}
+        yield "overdue_pieces", len(self.desk.rows("/overdue")), {}
         for machine, product in machines_of(self.asked.setup):
             yield from self.machine(machine, product)
 
     def machine(self, machine: str, product: str | None) -> metrics.Samples:
-        slots: list[reports.SlotRow] = self.desk.rows("/slots", machine=machine) or []
+        slots: list[reports.SlotRow] = self.desk.rows("/slots", machine=machine)
         kit: list[reports.KitRow] = []
         if product:
-            kit = self.desk.rows("/kit", product=product, machine=machine, boards=1) or []
+            kit = self.desk.rows("/kit", product=product, machine=machine, boards=1)
         pieces = collections.Counter({row.slot: 0 for row in kit})
         for row in slots:
             pieces[row.slot] += row.remaining
@@ -196,7 +198,7 @@ class Watch:
             stdin=subprocess.DEVNULL,
             capture_output=True,
             **plant.TEXT,
-            timeout=SECONDS_FOR_A_FILE,
+            timeout=SECONDS_FOR_SYSTEMD,
         )
         told = dict(line.split("=", 1) for line in done.stdout.splitlines() if "=" in line)
         if told.get("LoadState") != "loaded":
@@ -219,9 +221,8 @@ class Watch:
     def backup(self) -> metrics.Samples:
         """The newest sealed file; one of the future is none to trust."""
         if is_there(self.sealed):
-            with within(SECONDS_FOR_A_FILE):
-                has = self.desk.has if self.is_up else lambda _: True
-                yield from sealed_watch.newest(self.sealed, has)
+            has = self.desk.has if self.is_up else lambda _: True
+            yield from sealed_watch.newest(self.sealed, has)
 
     def archive(self) -> metrics.Samples:
         has = self.desk.has if self.is_up else lambda _: False
