@@ -189,7 +189,7 @@ LOST: dict[str, Callable[[Line], None]] = {
 
 
 def untraced_tool(line: Line, *words: Word) -> Ended:
-    return run_tool("untraced", *words, "--archive", line.archive)
+    return run_tool("untraced", *words, "--line", line.folder)
 
 
 def asked(line: Line) -> Ended:
@@ -219,7 +219,7 @@ def test_lost_rows_are_noticed_after_roll_overs(line: Line, how: str) -> None:
         line.rollover().expect()
     line.seal().expect(4, f"untraced.csv: {LACKED}", f"reels.csv: {LACKED}")
     untraced_tool(line, "list").expect(3, LACKED)
-    run_tool("reels", "list", "--archive", line.archive).expect(3, LACKED)
+    run_tool("reels", "list", "--line", line.folder).expect(3, LACKED)
 
 
 def test_a_person_decides_about_rows_that_no_copy_has(line: Line) -> None:
@@ -251,12 +251,12 @@ def set_up(line: Line) -> dict[str, str]:
 def added(line: Line) -> None:
     file = line.folder.parent / "mended.csv"
     file.write_text("reel,date_code\nK-3,2614\n")
-    words: list[Word] = ["add", file, "--by", "erp", "--archive", line.archive]
+    words: list[Word] = ["add", file, "--by", "erp", "--line", line.folder]
     run_tool("reels", *words, env=set_up(line)).expect(0, "1 of 1 reels")
 
 
 def received(line: Line) -> None:
-    run_tool("untraced", "collect", "--archive", line.archive, env=set_up(line)).expect()
+    run_tool("untraced", "collect", "--line", line.folder, env=set_up(line)).expect()
 
 
 RECORDED: dict[str, Callable[[Line], object]] = {"add": added, "collect": received}

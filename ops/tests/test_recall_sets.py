@@ -57,7 +57,7 @@ def boards(done: Ended) -> dict[str, dict[str, str]]:
 
 def give(line: Line, file: pathlib.Path) -> Ended:
     line.archive.parent.joinpath("untraced").mkdir(exist_ok=True)
-    return run_tool("reels", "add", file, "--by", "erp", "--archive", line.archive)
+    return run_tool("reels", "add", file, "--by", "erp", "--line", line.folder)
 
 
 # --- Lots
@@ -142,7 +142,7 @@ def test_a_later_row_takes_the_place_of_the_one_before(line: Line, book: pathlib
     book.write_text("reel,part,date_code\nK-3,CAP,2614\n")
     give(line, book).expect(0, "1 of 1 reels")
     assert len((line.archive / "reels.csv").read_text().splitlines()) == 5
-    done = run_tool("reels", "list", "date_code=2614", "--archive", line.archive).expect()
+    done = run_tool("reels", "list", "date_code=2614", "--line", line.folder).expect()
     assert [row["reel"] for row in table(done.out)] == ["K-1", "K-3", "K-4"]
 
 
@@ -157,7 +157,7 @@ def test_roots_book_belongs_to_the_line(folder: pathlib.Path) -> None:
     file = folder / "own.csv"
     file.write_text(ATTRIBUTES)
     file.chmod(0o600)
-    run_tool("reels", "add", file, "--by", "erp", "--archive", archive).expect()
+    run_tool("reels", "add", file, "--by", "erp", "--line", archive.parent).expect()
     made = (archive / attributes.FILE_NAME, inbox / attributes.NOTE)
     assert [(path.stat().st_uid, path.stat().st_gid) for path in made] == [NOBODY, NOBODY]
 

@@ -121,7 +121,7 @@ def test_the_proxy_hands_receipts_on(site: Site) -> None:
 
 def want_one(site: Site, reel: Reel) -> None:
     """The book has this reel alone, once the receipts are collected."""
-    done = run_tool("untraced", "collect", "--archive", site.room / "line/sealed")
+    done = run_tool("untraced", "collect", "--line", site.room / "line")
     done.expect(0, "1 reels have attributes")
     assert known(site.room / "line/sealed") == [reel]
 

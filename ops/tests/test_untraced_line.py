@@ -56,7 +56,7 @@ class Plant:
         self.send("--follow", "-", *self.handed_on, given=given).expect(1)
 
     def untraced(self, *words: Word) -> Ended:
-        return run_tool("untraced", *words, "--archive", self.line.archive)
+        return run_tool("untraced", *words, "--line", self.line.folder)
 
     def decide(self, record: str, became: str) -> None:
         person: list[Word] = ["--by", "A. Person", "--became", became, "--reason", "seen"]

@@ -206,7 +206,7 @@ def test_a_service_that_failed(its: Watched) -> None:
 
 
 def test_a_desks_file_that_is_not_there(its: Watched) -> None:
-    found = its.metrics(db=its.room / "nowhere/desk")
+    found = its.metrics(line=its.room / "nowhere")
     expect(found, watch_source_up__file=0, file_bytes=None, up=1)
 
 

@@ -45,44 +45,36 @@ def set_ups() -> list[dict[str, str]]:
         raise Fault(str(fault)) from fault
 
 
-def set_up(reader: argparse.ArgumentParser, **names: str) -> None:
-    """Takes the words of a tool from the line's set-up file, as far as the command line doesn't say
-    them. `names` are those of words that the tool calls otherwise.
+def set_up(reader: argparse.ArgumentParser) -> None:
+    """Takes the words of a tool from the line that --line says, by its name or its folder, else from
+    the one that is set up on this machine; what the command line says itself counts. Also without a
+    set-up file there are `db` and `archive`, the desk and the sealed files.
     """
-    if not any(action.dest == "line" for action in reader._actions):
-        reader.add_argument(
-            "--line", type=line_name, metavar="NAME", help="which line's, where several are set up"
-        )
+    reader.add_argument(
+        "--line", metavar="LINE", help="the line's name or folder, where several are set up"
+    )
     given = argparse.ArgumentParser(add_help=False, allow_abbrev=False)
     given.add_argument("--line")
-    given.add_argument("--db")
-    given.add_argument("--archive")
-    it = given.parse_known_args()[0]
+    name = given.parse_known_args()[0].line
     try:
-        named = "db" if it.db or not it.archive else "archive"
-        those = [its for its in set_ups() if getattr(it, named) in (None, its[named])]
+        those = set_ups()
     except Fault as fault:
         reader.error(str(fault))
-    own = [its for its in those if it.line in (None, its["line"])]
+    own = [its for its in those if name in (None, its["line"])]
+    if name and "/" in name:
+        folder = pathlib.Path(name).absolute()
+        own = [its for its in those if its["db"] == str(folder / places.DESK.name)]
+        own = own or [{"line": folder.name, "db": str(folder / places.DESK.name)}]
     if len(own) > 1:
         reader.error(
             f"the lines {', '.join(its['line'] for its in own)} are set up in {SET_UP}: say by"
             " --line which it is"
         )
-    if those and not own:
-        reader.error(
-            f"in {SET_UP} the lines {', '.join(its['line'] for its in those)} are set up, and not"
-            f" {it.line}: write {SET_UP}/{it.line}.conf, or name its desk by --db"
-        )
-    known = {action.dest for action in reader._actions}
-    reader.set_defaults(
-        **{
-            names.get(name, name): value
-            for its in own
-            for name, value in its.items()
-            if names.get(name, name) in known
-        }
-    )
+    if name and not own:
+        reader.error(f"there is no {SET_UP}/{name}.conf: write it, or say --line FOLDER")
+    words: dict[str, object] = dict(own[0]) if own else {}
+    db = pathlib.Path(str(words.get("db", places.DESK)))
+    reader.set_defaults(**{**words, "db": db, "archive": db.with_name(model.SEALED)})
 
 
 def offer_service(reader: argparse.ArgumentParser) -> None:

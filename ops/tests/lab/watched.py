@@ -97,7 +97,7 @@ class Watched:
             "to": self.file,
             "port": site.desk_port,
             "health": f"{site.url}/health",
-            "db": self.room / "desk",
+            "line": self.room,
             "setup": self.room / "etc/station/setup.json",
             "clock": self.answer,
             "drained": site.drained,

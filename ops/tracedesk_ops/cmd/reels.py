@@ -1,8 +1,8 @@
 """Keeps the attributes of reels that a desk doesn't have: date code, supplier, maker's part number,
 order.
 
-usage: tracedesk-reels add FILE --by NAME [--line NAME] [--archive FOLDER]
-       tracedesk-reels list [ATTRIBUTE=VALUE].. [--line NAME] [--archive FOLDER]
+usage: tracedesk-reels add FILE --by NAME [--line LINE]
+       tracedesk-reels list [ATTRIBUTE=VALUE].. [--line LINE]
 
 examples:
   tracedesk-reels add delivery.csv --by erp
@@ -16,9 +16,7 @@ and never changes a row: a later row of a reel takes the place of the one before
 there already with the same attributes gets no row. `list` prints the newest row of each reel.
 
 --by       who gives them: a person, or a program
---line     which line's, where several are set up
---archive  the folder with the sealed files (that of the set-up file, else
-           /var/lib/tracedesk/sealed)
+--line     the line's name or folder, where several are set up
 
 Exit status: 0 done; 1 list: no reel has these attributes; 2 bad command line, or FILE can't be
 read; 3 the book is damaged or gone, or a desk has recorded a row that it lacks, and standard error
@@ -31,7 +29,7 @@ import csv
 import io
 import pathlib
 
-from tracedesk_ops import around, attributes, books, catalogue, collecting, model, options
+from tracedesk_ops import around, attributes, books, catalogue, collecting, options
 from tracedesk_ops import places, plant, reader_of
 from tracedesk_ops.line import LineFolder
 from tracedesk_ops.recalls import sets
@@ -89,10 +87,8 @@ def parse() -> argparse.Namespace:
     reader.add_argument("what", choices=("add", "list"))
     reader.add_argument("words", nargs="*", metavar="FILE | ATTRIBUTE=VALUE")
     reader.add_argument("--by", metavar="NAME")
-    reader.add_argument("--archive", type=pathlib.Path, default=places.DESK.with_name(model.SEALED))
     options.set_up(reader)
     asked = reader.parse_args()
-    asked.archive = asked.archive.absolute()
     if asked.what == "add":
         if len(asked.words) != 1 or not asked.by:
             reader.error("add takes one FILE, and --by NAME")
@@ -103,9 +99,7 @@ def parse() -> argparse.Namespace:
         except ValueError as fault:
             reader.error(str(fault))
     if not places.is_folder(asked.archive):
-        reader.error(
-            f"there is no folder {asked.archive}: --archive names that of the line's sealed files"
-        )
+        reader.error(f"there is no folder {asked.archive}: --line says which line's it is")
     return asked
 
 

@@ -1,10 +1,9 @@
 """Lists the work that a line's desk refused and did not trace, and keeps each person's decision
 about it.
 
-usage: tracedesk-untraced collect [--every SECONDS] [--line NAME] [--archive FOLDER]
-       tracedesk-untraced list [--all] [--line NAME] [--archive FOLDER]
-       tracedesk-untraced decide ID --by NAME --became TEXT --reason TEXT [--line NAME] [--archive
-       FOLDER]
+usage: tracedesk-untraced collect [--every SECONDS] [--line LINE]
+       tracedesk-untraced list [--all] [--line LINE]
+       tracedesk-untraced decide ID --by NAME --became TEXT --reason TEXT [--line LINE]
 
 examples:
   tracedesk-untraced collect                     once
@@ -26,9 +25,7 @@ pieces as doubtful because of it, and nothing was placed from that reel, decide 
 off'. If a recall says that untraced.csv has not a row, and no copy has it, look for that work on
 paper, then decide lost.
 
---line     which line's, where several are set up
---archive  the folder with the sealed files (that of the set-up file, else
-           /var/lib/tracedesk/sealed)
+--line     the line's name or folder, where several are set up
 --became   scrapped, reworked, used as it is, sent again, or words of your own; of a refused reel,
            taken off
 
@@ -39,10 +36,9 @@ which; 9 an unexpected failure.
 from __future__ import annotations
 
 import argparse
-import pathlib
 import time
 
-from tracedesk_ops import around, books, catalogue, collecting, model, options, places, plant
+from tracedesk_ops import around, books, catalogue, collecting, model, options, plant
 from tracedesk_ops import reader_of, receipts, untraced
 from tracedesk_ops.line import LineFolder
 from tracedesk_ops.sealed import FilesFault
@@ -155,12 +151,6 @@ def main() -> int:
             usage=argparse.SUPPRESS,
         )
         it.set_defaults(call=call)
-        it.add_argument(
-            "--archive",
-            type=pathlib.Path,
-            default=places.DESK.with_name(model.SEALED),
-            metavar="FOLDER",
-        )
         if verb == "list":
             it.add_argument("--all", action="store_true")
         if verb == "collect":
@@ -171,10 +161,9 @@ def main() -> int:
                 it.add_argument(f"--{name}", required=True, type=words_of, metavar="TEXT")
         options.set_up(it)
     asked = reader.parse_args()
-    asked.archive = asked.archive.absolute()
-    with plant.as_owner(asked.archive.parent / places.DESK.name):
-        try:
+    try:
+        with plant.as_owner(asked.db):
             return int(asked.call(asked))
-        except FilesFault as fault:
-            plant.tell(str(fault))
-            return 3
+    except (FilesFault, OSError) as fault:
+        plant.tell(str(fault))
+        return 3

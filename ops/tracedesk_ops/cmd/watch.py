@@ -2,8 +2,7 @@
 all.
 
 usage: tracedesk-watch [--to FILE] [--port N] [--health URL] [--unit NAME] [--setup FILE]
-                       [--db FILE] [--clock FILE] [--drained FILE]
-                       [--timeout SECONDS]
+                       [--line LINE] [--clock FILE] [--drained FILE] [--timeout SECONDS]
        tracedesk-watch --list
 
 examples:
@@ -302,7 +301,6 @@ def offer_places(reader: argparse.ArgumentParser) -> None:
     )
     for name, default, what in (
         ("setup", SETUP, "the machines"),
-        ("db", places.DESK, "the desk's file, in the line's folder"),
         ("clock", CLOCK, "the idle clock's last answer"),
         ("drained", options.DRAINED, "senders are sent away while it is there"),
     ):
