@@ -29,7 +29,8 @@ class Line:
         self.spool = spool.Spool(self.room / "spool", name="m1")
         self.states = interlock.Interlock(self.spool, ["M1"], is_used=True)
         self.asker = asking.Asker(self.states, self.desk)
-        self.list = scans.Scans(self.states, str(self.scans_at), lambda _: self.desk, True, print)
+        self.list = scans.Scans(self.states, str(self.scans_at), lambda _: self.desk, print)
+        self.states.scans_at = interlock.clock()
 
     def message(self, word: str, uid: Optional[str] = None, **body: Any) -> Dict[str, Any]:
         self.count += 1

@@ -13,7 +13,7 @@ import pytest
 from desk_model import Model
 from interlock_line import Line
 
-from tracedesk import answers, asking, command, disk, interlock, spool
+from tracedesk import answers, asking, command, desk, disk, interlock, scans, spool
 
 
 def test_a_start_that_is_accepted_permits_and_names_its_board(line: Line) -> None:
@@ -50,6 +50,7 @@ def test_any_message_that_waits_too_long_stops(line: Line) -> None:
     assert line.state() == "go"
     with later(11):
         line.asker.ask()
+        line.list.look()
         assert line.states.state("M1").reason == "a message waits: no answer for 10 seconds"
 
 
@@ -57,10 +58,11 @@ def test_any_message_that_waits_too_long_stops(line: Line) -> None:
 def later(seconds: float) -> Iterator[None]:
     """So many seconds on."""
     now, day = interlock.clock, time.time
-    with mock.patch.object(interlock, "clock", lambda: now() + seconds):
-        with mock.patch.object(asking, "clock", lambda: now() + seconds):
-            with mock.patch.object(time, "time", lambda: day() + seconds):
-                yield
+    with contextlib.ExitStack() as held:
+        for module in (interlock, asking, scans):
+            held.enter_context(mock.patch.object(module, "clock", lambda: now() + seconds))
+        held.enter_context(mock.patch.object(time, "time", lambda: day() + seconds))
+        yield
 
 
 @pytest.mark.parametrize("word", ["MaterialsSpliced", "MaterialsLoaded", "MaterialsUnloaded"])
@@ -239,6 +241,7 @@ def test_floor_life_ends_by_the_clock_too(line: Line) -> None:
     line.model.left["2-K1"] = 3
     assert line.state() == "go"
     with later(181):
+        line.list.look()
         assert line.cause() == "expired"
 
 
@@ -277,9 +280,34 @@ def test_silence_stops(line: Line) -> None:
     line.start()
     with later(11):
         assert line.states.state("M1").reason == "no answer for 10 seconds"
+        assert (line.state(), line.cause()) == ("stop", "silent"), "the list of scans isn't read"
+        line.list.look()
         assert line.state() == "go"
-    line.states.scans_at = interlock.clock() - 11
-    assert line.cause() == "silent"
+
+
+def not_there(line: Line) -> scans.Scans:
+    """A list that a proxy doesn't have, whose reading is tried."""
+    its = scans.Scans(line.states, f"{line.server.url}/line/scans", desk.Desk, print)
+    with pytest.raises(scans.NoList):
+        its.look()
+    return its
+
+
+def test_a_list_of_scans_that_is_not_there_stops(line: Line) -> None:
+    """From the first look on, since nobody knows what was refused to others; and once it is there
+    the machine goes on.
+    """
+    line.start()
+    line.states.scans_at = -float("inf")
+    not_there(line)
+    assert (line.cause(), line.reason()) == ("silent", "the list of scans: no answer for 10 seconds")
+    line.list.look()
+    assert line.state() == "go"
+    line.scans_at.rmdir()
+    with pytest.raises(OSError):
+        line.list.look()
+    with later(11):
+        assert line.cause() == "silent"
 
 
 def test_a_machine_that_is_not_heard_stops(line: Line) -> None:

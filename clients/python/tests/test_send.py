@@ -383,6 +383,7 @@ def test_command_lines_that_ask_for_nothing(lab: Lab) -> None:
         ["a", "b"],
         ["--again", "nothing"],
         ["--put", lab.room / "none"],
+        ["--interlock", "true", "--machine", "M1"],  # no list of scans
     ]
     for words in each:
         done = lab.send(*words)

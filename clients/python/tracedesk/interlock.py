@@ -64,9 +64,7 @@ class Interlock:
         self.greatest = 0  # number of an accepted command
         self.accepted = 0  # the last message that was accepted: one up to it is sent again
         self.is_stuck, self.disk, self.ended, self.is_needed = False, "", "", is_used
-        self.scans_at: Optional[
-            float
-        ] = None  # when the list of scans was read; none if there is none
+        self.scans_at = -float("inf")  # when the list of scans was read
         self.scan_place: Optional[List[Any]] = None  # how far it was read
         self.batches = self.lines = self.old_lines = 0  # old: a sender before has read them
         self.first_seen: Dict[str, int] = {}  # of each scan's UniqueID its first line
@@ -390,10 +388,9 @@ class Interlock:
         silent = f"no answer for {self.silence:g} seconds"
         if now - it.asked > self.silence:
             return Fault("silent", silent)
-        if self.scans_at is not None and now - self.scans_at > self.silence:
+        if now - self.scans_at > self.silence:
             return Fault("silent", f"the list of scans: {silent}")
-        known = it.asked if self.scans_at is None else min(it.asked, self.scans_at)
-        if known < self.resumed:
+        if min(it.asked, self.scans_at) < self.resumed:
             return Fault("silent", "the sender was suspended, and the desk wasn't asked since")
         oldest = next(iter(self.waits.values()), now)
         if now - oldest > self.silence:

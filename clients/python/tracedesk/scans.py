@@ -28,7 +28,7 @@ MOST = 8 << 20  # bytes of one look
 PATH = "/line/scans"  # where the proxy serves the list
 
 
-class NoList(Exception):
+class NoList(OSError):
     """The proxy keeps no such list."""
 
 
@@ -64,7 +64,7 @@ class Proxy:
     def sizes(self) -> Dict[str, int]:
         status, body = self.got("/", {})
         if status == 404:
-            raise NoList
+            raise NoList("it is not there")
         listed = answers.read_list(body)
         if status != 200 or listed is None:
             raise OSError(f"status {status}")
@@ -78,17 +78,16 @@ class Proxy:
 
 
 class Scans:
-    """Follows the list, in a thread of its own."""
+    """Follows the list, in a thread of its own. Until it was read no machine has `go`."""
 
     def __init__(
         self,
         states: Interlock,
         place: str,
         desk_of: Callable[[str], Desk],
-        is_named: bool,
         tell: Callable[[str], None],
     ) -> None:
-        self.states, self.where, self.is_named, self.tell = states, place, is_named, tell
+        self.states, self.where, self.tell = states, place, tell
         self.place: Any = Proxy(desk_of(place)) if "://" in place else Folder(place)
         self.at: Optional[Tuple[str, int]] = None  # how far it was read
         self.old: Optional[Tuple[str, int]] = None  # scans before it are known, and change nothing
@@ -97,29 +96,17 @@ class Scans:
             self.old = str(told[0]), int(told[1])
 
     def begin(self) -> None:
-        if self.is_named:
-            self.states.scans_at = -float("inf")  # no `go` before it was read
         threading.Thread(target=self.run, daemon=True).start()
 
     def run(self) -> None:
         while not self.states.ended:
             try:
                 self.look()
-            except NoList:
-                if self.states.scans_at is None:
-                    self.tell(
-                        f"{self.where} is not there: what the desk refuses to others isn't known"
-                        " here"
-                    )
-                    return
-                self.say("it is gone")
             except Exception as fault:
                 self.say(str(fault) or repr(fault))
             time.sleep(OFTEN)
 
     def say(self, why: str) -> None:
-        if self.states.scans_at is None:  # it was there at no time: nothing goes on without it
-            self.states.scans_at = -float("inf")
         if time.monotonic() >= self.next_news:
             self.next_news = time.monotonic() + NEWS_OF_A_FAULT
             self.tell(f"what others scanned is not known: {self.where}: {why}")

@@ -72,7 +72,8 @@ any number may put messages in. The file is on a disk of this computer.
 --machine NAME   a machine of the interlock; --silence SECONDS without an answer stop it (10). One
                  sender has a machine
 --scans          where the proxy lists what others scanned: a folder, or
-                 https://desk.plant/line/scans (with an https --url that of it)
+                 https://desk.plant/line/scans (with an https --url that of it). Until it was read,
+                 and while it isn't there, the machine is stopped
 --check          says whether the desk, its certificate, the clock and the log-in are right
 --validate       looks at messages, a line each, and sends nothing: '-' is standard input. Members
                  that nobody reads are warned of
@@ -186,16 +187,8 @@ def run_spool(asked: argparse.Namespace, to: desk.Desk) -> int:
 
 def follow_scans(asked: argparse.Namespace, states: interlock.Interlock) -> None:
     """Follows the list of what others scanned: that of the proxy, unless another one is named."""
-    place = asked.scans
-    if place is None and asked.url.startswith("https:"):
-        place = asked.url.rstrip("/") + scans.PATH
-    if place is None:
-        tell("what the desk refuses to others isn't known here: name its list by --scans")
-        return
-    it = scans.Scans(
-        states, place, lambda url: desk_of(asked, url, asked.silence / 2), bool(asked.scans), tell
-    )
-    it.begin()
+    place = asked.scans or asked.url.rstrip("/") + scans.PATH
+    scans.Scans(states, place, lambda url: desk_of(asked, url, asked.silence / 2), tell).begin()
 
 
 def check(asked: argparse.Namespace) -> int:
@@ -305,6 +298,10 @@ def words() -> argparse.Namespace:
         reader.error("--interlock COMMAND wants --machine NAME, of each machine that it stops")
     if asked.scans and not asked.interlock:
         reader.error("--scans is for --interlock: it says where the proxy's list of scans is")
+    if asked.interlock and not asked.scans and not asked.url.startswith("https:"):
+        reader.error(
+            "--interlock wants the proxy's list of what others scanned: an https --url, or --scans"
+        )
     if asked.scans and "://" not in asked.scans and not pathlib.Path(asked.scans).is_dir():
         reader.error(f"--scans: {asked.scans} is no folder: name that of the proxy's list of scans")
     if asked.silence <= 0 or asked.every <= 0:

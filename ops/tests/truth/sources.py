@@ -76,7 +76,7 @@ class Source:
             states = interlock.Interlock(self.spool, self.machines, every=0.0, is_used=True)
             kind = sender.Sender if self.machines else Scanning
             self.sender = kind(self.spool, self.desk, inbox=self.inbox, interlock=states)
-            self.looks = scans.Scans(states, str(self.scans), lambda _: self.desk, True, print)
+            self.looks = scans.Scans(states, str(self.scans), lambda _: self.desk, print)
             if isinstance(self.sender, Scanning):
                 self.sender.scans = self.scans
         while self.sender.send_waiting():
