@@ -300,7 +300,10 @@ def test_a_list_of_scans_that_is_not_there_stops(line: Line) -> None:
     line.start()
     line.states.scans_at = -float("inf")
     not_there(line)
-    assert (line.cause(), line.reason()) == ("silent", "the list of scans: no answer for 10 seconds")
+    assert (line.cause(), line.reason()) == (
+        "silent",
+        "the list of scans: no answer for 10 seconds",
+    )
     line.list.look()
     assert line.state() == "go"
     line.scans_at.rmdir()

@@ -1,10 +1,10 @@
-"""A refused report of work: it is recorded once, and not sent again unless a person decides so."""
+"""A refused report of work: it is recorded once, named, and never sent again."""
 import base64
 import hashlib
 import json
 import pathlib
 import subprocess
-from typing import Any, Iterator, Optional
+from typing import Any, Iterator
 
 import at_port
 import pytest
@@ -18,14 +18,8 @@ def work(uid: str, word: str = "WorkStarted", **body: Any) -> bytes:
     return at_port.text(word, uid, "M1", **{"Machine": "M1", "Board": "B1", **body})
 
 
-SLOTS = "slot,position,reel,part,lot,remaining,minutes_left\n1,1,NEW,P,L-2,500,unlimited\n"
-
-
 class Answering(sending.Answering):
-    """Has reels too, and takes files."""
-
-    def do_GET(self) -> None:
-        self.reply(200, self.server.slots.encode())
+    """Takes files too."""
 
     def do_PUT(self) -> None:
         self.server.put[self.path] = self.body()
@@ -33,19 +27,18 @@ class Answering(sending.Answering):
 
 
 class UntracedLab(sending.Lab):
-    """With folders for records, decisions and the status, and a desk that has reels."""
+    """With folders for records and the status, and a desk that takes files."""
 
     answering = Answering
 
     def __init__(self, room: pathlib.Path) -> None:
         super().__init__(room)
-        self.server.slots = SLOTS
         self.inbox, self.status = room / "inbox", room / "status"
-        for folder in (self.inbox, self.status, room / "decided"):
+        for folder in (self.inbox, self.status):
             folder.mkdir()
 
-    def records(self, folder: Optional[pathlib.Path] = None) -> list[Any]:
-        return [json.loads(it.read_bytes()) for it in sorted((folder or self.inbox).iterdir())]
+    def records(self) -> list[Any]:
+        return [json.loads(it.read_bytes()) for it in sorted(self.inbox.iterdir())]
 
     def kept(self) -> int:
         """How many records the spool has, which aren't handed on."""
@@ -100,7 +93,9 @@ def test_reports_of_work_are_recorded_and_stay(lab: UntracedLab) -> None:
     done = lab.send("--again", "all")
     assert (done.returncode, done.stdout) == (6, b"1 wait again, as 000000000006\n"), done.stderr
     assert done.stderr.count(b"is a report of work, and is not sent again") == 4
-    assert lab.send("--again", "000000000001").returncode == 6
+    done = lab.send("--again", "000000000001")
+    assert (done.returncode, b"message 000000000001 is a report" in done.stderr) == (6, True)
+    assert b": WorkStarted was refused" in done.stderr
     lab.server.came.clear()
     lab.send()
     assert (lab.uids(), len(lab.records())) == (["bad5"], 4)
@@ -127,46 +122,6 @@ def test_a_refused_reel_is_recorded_and_may_be_sent_again(lab: UntracedLab) -> N
     assert json.loads((lab.status / "m1.json").read_text())["Machines"]["M1"]["LastRefused"] == None
     assert lab.send("--again", "all").returncode == 0
     assert len(lab.names()) == 3
-
-
-def test_a_person_decides(lab: UntracedLab) -> None:
-    lab.refuse()
-    assert lab.kept() == 4
-    for words in (["--by", "A"], ["--reason", "x"], ["--by", " ", "--reason", "x"]):
-        assert lab.send("--again", "000000000001", *words).returncode == 2
-    decide = [
-        "--again",
-        "000000000001",
-        "--by",
-        "A. Person",
-        "--reason",
-        "the splice was late",
-        "--name",
-        "m1",
-    ]
-    done = lab.send(*decide)
-    assert done.returncode == 6, done
-    for it in (
-        b"WorkStarted",
-        b"accepted for M1 from this sender since then:\n  nothing",
-        b"reel NEW, lot L-2",
-    ):
-        assert it in done.stdout
-    code = done.stderr.split(b"--seen ")[1].split()[0].decode()
-    lab.server.slots = SLOTS.replace("500", "499")
-    done = lab.send(*decide, "--seen", code)
-    assert (done.returncode, b"has changed" in done.stderr, lab.names()) == (6, True, [])
-    code = done.stderr.split(b"--seen ")[1].split()[0].decode()
-    lab.server.came.clear()
-    done = lab.send(*decide, "--seen", code)
-    assert (done.returncode, len(lab.names())) == (0, 1), done
-    lab.send("--untraced", lab.inbox)
-    assert (lab.uids(), lab.kept()) == (["bad1"], 0)
-    decided = lab.records(lab.room / "decided")
-    assert [(it["Became"], it["By"], it["Reason"]) for it in decided] == [
-        ("sent again", "A. Person", "the splice was late")
-    ]
-    assert (lab.inbox / f"{decided[0]['Of']}.json").exists()
 
 
 def test_records_go_to_the_proxy(lab: UntracedLab) -> None:
@@ -303,9 +258,8 @@ def test_one_record_that_is_not_taken_holds_no_other_up(tmp_path: pathlib.Path) 
     told: list[str] = []
     for number in range(9):
         it.keep_made(f"{number:032}", b'{"Kind":"refused","Board":%d}' % number)
-    it.keep_made("f" * 32, b'{"Kind":"decided"}')
     to = desk.Desk("http://127.0.0.1:1")
     untraced.Line(it, to, interlock.Interlock(it, []), inbox, None, told.append).look()
     assert len(inbox.names) == 8
-    assert [id_[-1] for id_, _ in it.made()] == ["5", "f"]
-    assert "2 records, the first" in told[0]
+    assert [id_[-1] for id_, _ in it.made()] == ["5"]
+    assert "1 records, the first" in told[0]

@@ -3,13 +3,12 @@ from __future__ import annotations
 
 import argparse
 import datetime
-import hashlib
 import json
 import re
 import sys
-from typing import Any, Callable, Dict, List
+from typing import Any, Dict, List
 
-from . import answers, desk, disk, spool, untraced
+from . import answers, disk, spool
 from .console import say, tell
 
 STATES = ("waiting", "sent", "aside", "dropped")  # of messages
@@ -67,7 +66,9 @@ def moment(text: str) -> float:
     return at.timestamp()
 
 
-def again(asked: argparse.Namespace, into: spool.Spool, desk_of: Callable[[], desk.Desk]) -> int:
+def again(asked: argparse.Namespace, into: spool.Spool) -> int:
+    """Has requests sent again, or all that was accepted since a time. No report of work that was
+    refused is."""
     names: List[str] = asked.again
     if len(names) == 1 and TIME.fullmatch(names[0]):
         found = into.again_since(moment(names[0]))
@@ -82,44 +83,15 @@ def again(asked: argparse.Namespace, into: spool.Spool, desk_of: Callable[[], de
         return 0
     names = into.names("aside") if names == ["all"] else names
     reports = [it for it in names if into.is_report(it)]
-    if asked.by and reports:
-        if asked.seen != shown_code(asked.seen, into, reports, desk_of):
-            return 6
-        for it in reports:
-            into.decide(it, asked.by, asked.reason)
-        reports = []
-    found = into.again((it for it in names if it not in reports), decided=bool(asked.by))
+    found = into.again(it for it in names if it not in reports)
     say(f"{len(found)} wait again{', as ' + ' '.join(found) if found else ''}")
     for it in reports:
-        tell(
-            f"message {it} is a report of work, and is not sent again:"
-            f" {untraced.brief(into.message(it))} was {answers.short(refusal_of(into, it))}"
-        )
+        answer, word = into.kept(it).answer, answers.word_of(into.message(it))
+        why = answers.short(answer) if answer else "too long"
+        tell(f"message {it} is a report of work, and is not sent again: {word} was {why}")
     if reports:
         tell(
             f"{len(reports)} reports of work stay in {into.path}: the boards are untraced work."
-            " Decide about each by tracedesk-untraced. To send one again all the same, name it,"
-            " with --by and --reason"
+            " Decide about each by tracedesk-untraced"
         )
     return 6 if reports else 0
-
-
-def refusal_of(into: spool.Spool, name: str) -> answers.Answer:
-    return into.kept(name).answer or answers.LINE_TOO_LONG
-
-
-def shown_code(
-    seen: str, into: spool.Spool, names: List[str], desk_of: Callable[[], desk.Desk]
-) -> str:
-    """Shows what who decides must see, and returns its code: it changes with what is shown."""
-    with desk_of() as to:
-        shown = "\n".join(untraced.shown(into, it, to) for it in names)
-    code = hashlib.sha256(shown.encode()).hexdigest()[:8]
-    if seen != code:
-        say(shown)
-        tell(
-            "nothing is sent"
-            + (": what is shown has changed" if seen else "")
-            + f". If the reels are those of the work, decide by the same command with --seen {code}"
-        )
-    return code

@@ -1,5 +1,4 @@
-"""Records of what the desk did not take: reports of work, and loads, splices and unloads; and what
-a person decided about each.
+"""Records of what the desk did not take: reports of work, and loads, splices and unloads.
 
 A record is one line of JSON. Its id is made of its bytes, and its file is ID.json, so the same
 record is there once, whatever is killed. A spool makes records in its folder `untraced`. From there
@@ -62,7 +61,7 @@ def is_report(told: Dict[str, Any]) -> bool:
 
 def is_recorded(told: Dict[str, Any]) -> bool:
     """Whether a record is made of a message that isn't taken: a report of work, or a load, splice
-    or unload, which may be sent again.
+    or unload.
     """
     return is_report(told) or told["MessageName"] in words.RECORDED
 

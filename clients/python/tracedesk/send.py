@@ -6,8 +6,6 @@ usage: tracedesk-send [--url URL] [WHO] [HOW] MESSAGES ANSWERS
        tracedesk-send --spool FILE --put MESSAGES | --put -
        tracedesk-send --spool FILE --list STATE | --show NAME .. | --show STATE
        tracedesk-send --spool FILE --again all | --again NAME .. | --again TIME | --drop NAME ..
-       tracedesk-send --spool FILE [--url URL] [WHO] --again NAME --by PERSON --reason TEXT
-       [--seen CODE]
        tracedesk-send --spool FILE --release FEEDER ..
        tracedesk-send [--url URL] [WHO] --check
        tracedesk-send --validate MESSAGES | --version
@@ -48,14 +46,11 @@ any number may put messages in. The file is on a disk of this computer.
 --drop NAME      is done with messages that were set aside
 --again          puts requests that were set aside behind those that wait, once the fault is mended.
                  A report of work is about the past, so it is judged by the reels of its time or not
-                 at all: it is listed, and not sent, with status 6. With a TIME, as
+                 at all: it is named, and never sent again, with status 6. With a TIME, as
                  2026-03-02T06:00Z, puts each message that was accepted since then before those that
                  wait, and none that was refused: after the desk was restored from a copy of that
                  time. Messages that the desk has already aren't done twice. No sender may run
                  meanwhile
---by --reason    who decides that a report of work is sent again, and why. First the commands
-                 accepted since are shown, with the CODE for --seen; then the decision is kept as a
-                 record, and the message waits again
 --untraced       where the records of reports of work that were not taken go: a folder, or
                  https://desk.plant/line/untraced. Without it they are kept in the spool, and are
                  handed on once it is named
@@ -134,7 +129,6 @@ from . import two_files, untraced, validate
 from .console import NAME, ended, say, tell
 
 RATE = 40.0  # messages a second of one spool
-SHOWING = 20.0  # seconds of patience for what is shown before a decision
 NAMED = re.compile("[A-Za-z0-9_-][A-Za-z0-9._-]{0,63}")
 
 
@@ -271,7 +265,7 @@ def reader_of_words() -> argparse.ArgumentParser:
     what.add_argument("--list", choices=(*by_hand.STATES, "all"))
     what.add_argument("--check", action="store_true")
     what.add_argument("--validate", metavar="FILE")
-    for name in ("by", "reason", "seen", "untraced", "status", "name", "interlock", "scans"):
+    for name in ("untraced", "status", "name", "interlock", "scans"):
         reader.add_argument(f"--{name}")
     reader.add_argument("--machine", action="append", default=[])
     reader.add_argument("--silence", type=float, default=interlock.SILENCE)
@@ -290,10 +284,6 @@ def words() -> argparse.Namespace:
     of_a_spool = "follow stay put again list show drop release interlock".split()
     if not asked.spool and any(getattr(asked, it) for it in of_a_spool):
         reader.error(", ".join(f"--{it}" for it in of_a_spool) + " want --spool FILE")
-    if (asked.by or asked.reason or asked.seen) and not (
-        asked.again and asked.by and asked.by.strip() and asked.reason and asked.reason.strip()
-    ):
-        reader.error("--by and --reason go together, with --again NAME")
     if bool(asked.interlock) != bool(asked.machine):
         reader.error("--interlock COMMAND wants --machine NAME, of each machine that it stops")
     if asked.scans and not asked.interlock:
@@ -338,13 +328,7 @@ def desk_of(
         )
         log_in = asked.user, password
     patience = (
-        asked.patience
-        if asked.patience is not None
-        else SHOWING
-        if asked.again
-        else None
-        if asked.spool
-        else desk.PATIENCE
+        asked.patience if asked.patience is not None else None if asked.spool else desk.PATIENCE
     )
     rate = asked.rate if asked.rate is not None else RATE if asked.spool else 0.0
     return desk.Desk(
@@ -354,7 +338,7 @@ def desk_of(
         patience=patience,
         timeout=timeout or asked.timeout,
         rate=rate,
-        waits=bool(asked.spool and not asked.again),
+        waits=bool(asked.spool),
         tell=tell,
     )
 
@@ -363,7 +347,7 @@ def run(asked: argparse.Namespace) -> int:
     if asked.put:
         return by_hand.put(spool_of(asked), asked.put)
     if asked.again:
-        return by_hand.again(asked, spool_of(asked), lambda: desk_of(asked))
+        return by_hand.again(asked, spool_of(asked))
     if asked.list:
         return by_hand.listed(spool_of(asked), asked.list)
     if asked.show:

@@ -34,8 +34,7 @@ class Stopped(Exception):
 
 class Sender:
     """The one sender of a spool. `stops` ends the run at a message that is not taken; else that one
-    is set aside. A report of work is always set aside: it isn't sent again unless a person decides
-    so."""
+    is set aside. A report of work is always set aside, and never sent again."""
 
     def __init__(
         self,
@@ -100,7 +99,8 @@ class Sender:
                 for _, _, shown in differs:
                     self.interlock.differ(machine_of(told), witness.looked_up(self.desk, shown))
             elif is_report:
-                self.tell_line(name, told)
+                self.interlock.refused(machine_of(told), self.spool.kept(name).refusal)
+                self.interlock.news()
                 if self.stops:
                     raise self.stopped(name, answer)
         return len(names)
@@ -149,17 +149,6 @@ class Sender:
         patiently(lambda: self.spool.done(name, answer, at, made), self.tell)
         self.sent += 1
         self.look_at_what_is_kept()
-
-    def tell_line(self, name: str, told: Dict[str, Any]) -> None:
-        """Keeps the reels that are on a machine now that a report of it was refused, and shows the
-        refusal at the line.
-        """
-        machine = machine_of(told)
-        self.interlock.refused(machine, self.spool.kept(name).refusal)
-        with contextlib.suppress(Exception):  # who decides is told that they are not known
-            with self.desk.hasty() as desk:
-                self.spool.keep_slots(name, "\n".join(untraced.slots_of(desk, machine)))
-        self.interlock.news()
 
     def look_at_what_is_kept(self) -> None:
         """Once a minute forgets what was sent long ago, or is too much. Reports messages that were

@@ -36,8 +36,7 @@ CREATE TABLE IF NOT EXISTS message (
   n INTEGER PRIMARY KEY AUTOINCREMENT, text BLOB NOT NULL, uid TEXT NOT NULL,
   state TEXT NOT NULL DEFAULT 'waiting' CHECK (state IN ('waiting', 'sent', 'aside', 'dropped')),
   tried INTEGER NOT NULL DEFAULT 0, came REAL NOT NULL, answered REAL, answer BLOB,
-  archived INTEGER NOT NULL DEFAULT 0, record TEXT NOT NULL DEFAULT '',
-  slots TEXT NOT NULL DEFAULT '');
+  archived INTEGER NOT NULL DEFAULT 0, record TEXT NOT NULL DEFAULT '');
 CREATE INDEX IF NOT EXISTS message_of_state ON message (state, n);
 CREATE INDEX IF NOT EXISTS message_of_uid ON message (uid);
 CREATE TABLE IF NOT EXISTS record (id TEXT PRIMARY KEY, text BLOB NOT NULL);
@@ -382,7 +381,7 @@ class Spool:
         return records.as_read(self.text(name))
 
     def is_report(self, name: str) -> bool:
-        """Whether a message that was set aside reports work, and so needs a decision."""
+        """Whether a message that was set aside reports work, and so is not sent again."""
         if name not in self.names("aside"):
             raise SpoolError(
                 f"{self.path} has no message {name} that was set aside: --list aside names them. A"
@@ -399,21 +398,13 @@ class Spool:
             if records.is_report(it["Message"])
         }
 
-    def decide(self, name: str, by: str, reason: str) -> None:
-        """Keeps who decided that a report of work is sent again, and why, before it is sent."""
-        more = {"Became": "sent again", "Of": self.kept(name).record or None, "Reason": reason}
-        self.keep_made(*records.record("decided", by, records.utc(), **more))
-
-    def again(self, names: Iterable[str], decided: bool = False) -> List[str]:
-        """Puts messages that were set aside last; their new names. A report needs a decision."""
+    def again(self, names: Iterable[str]) -> List[str]:
+        """Puts requests that were set aside last; their new names."""
         found = []
         with self.whole():
             for name in names:
-                if self.is_report(name) and not decided:
-                    raise SpoolError(
-                        f"message {name} is a report of work: it isn't sent again without a"
-                        " decision"
-                    )
+                if self.is_report(name):
+                    raise SpoolError(f"message {name} is a report of work: it isn't sent again")
                 found.append(self.put(self.text(name)))
                 self.drop([name])
         return found
@@ -424,14 +415,6 @@ class Spool:
             for name in names:
                 self.is_report(name)
                 self.change("UPDATE message SET state = 'dropped' WHERE n = ?", number_of(name))
-
-    def slots(self, name: str) -> str:
-        """The reels on a machine when a report of it was refused; empty if they aren't known."""
-        its = self.rows("SELECT slots FROM message WHERE n = ?", number_of(name))
-        return str(its[0][0]) if its else ""
-
-    def keep_slots(self, name: str, slots: str) -> None:
-        self.change("UPDATE message SET slots = ? WHERE n = ?", slots, number_of(name))
 
     # --- Records that aren't handed on yet
 

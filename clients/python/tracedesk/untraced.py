@@ -3,15 +3,13 @@ the line, and its status.
 """
 from __future__ import annotations
 
-import json
 import pathlib
 import threading
 import time
 from typing import Any, Callable, Dict, List, Optional
 
-from . import answers
 from .console import NEWS_OF_A_FAULT, PAUSE_OF_A_FAULT
-from .desk import Desk, NotThere
+from .desk import Desk
 from .interlock import PERIOD, Interlock
 from .records import spelled, utc
 from .disk import sync_folder, write_synced
@@ -35,7 +33,6 @@ class Place:
         self.desk = desk_of(self.where) if "://" in where else None
         if self.desk is None and not pathlib.Path(where).is_dir():
             raise ValueError(f"{where} is no folder: make it, or name another")
-        self.desk_of = desk_of
 
     def put(self, name: str, text: bytes) -> None:
         """Puts a file there, whole; an OSError if it isn't there then."""
@@ -54,17 +51,6 @@ class Place:
         if status not in (200, 201, 204):
             kind = NotPut if 400 <= status < 500 and status not in (408, 429) else OSError
             raise kind(f"{self.where}: status {status}: {body[:100].decode(errors='replace')}")
-
-    @property
-    def beside(self) -> Optional["Place"]:
-        """The place of decisions, which is beside that of records; none where there is no such
-        folder.
-        """
-        where = self.where.rpartition("/")[0] + "/decided" if self.desk else ""
-        beside = pathlib.Path(self.where).absolute().parent / "decided"
-        if not self.desk and not beside.is_dir():
-            return None
-        return Place(where or str(beside), self.desk_of)
 
 
 class Line:
@@ -88,7 +74,6 @@ class Line:
             status,
             tell,
         )
-        self.decisions = inbox.beside if inbox else None
         self.next_news: Dict[str, float] = {}
         self.one = threading.Lock()
 
@@ -134,16 +119,11 @@ class Line:
         """
         wrong: List[str] = []
         for id_, text in self.spool.made() if self.inbox else []:
-            kind = answers.read_object(text).get("Kind")
-            place = self.decisions if kind == "decided" else self.inbox
             try:
-                if place is None:
-                    raise NotPut("there is no folder `decided` beside that of the records")
-                place.put(f"{id_}.json", text)
+                self.inbox.put(f"{id_}.json", text)
                 self.spool.handed_on(id_)
             except NotPut as fault:
-                what = "a decision wants a log-in of its own: " if kind == "decided" else ""
-                wrong.append(f"{id_}.json: {what}{fault}")
+                wrong.append(f"{id_}.json: {fault}")
         if wrong:
             raise OSError(f"{len(wrong)} records, the first {wrong[0]}")
 
@@ -162,42 +142,3 @@ class Line:
             "Fault": self.desk.fault,
             "Machines": self.interlock.told(),
         }
-
-
-def shown(spool: Spool, name: str, desk: Desk) -> str:
-    """What a person must see who decides about a report that was refused: what the desk accepted
-    from here since, and the reels then and now.
-    """
-    kept, told = spool.kept(name), spool.message(name)
-    machine, then = answers.body_of(told).get("Machine"), spool.slots(name)
-    later = [(it, spool.message(it)) for it in spool.names("sent") if it > name]
-    lines = [
-        f"message {name}, refused {kept.answered}: {brief(told)}",
-        f"  {kept.why}",
-        f"accepted for {machine} from this sender since then:",
-    ]
-    lines += [
-        f"  {it}: {brief(one)}"
-        for it, one in later
-        if answers.body_of(one).get("Machine") == machine
-    ] or ["  nothing"]
-    lines += [f"on {machine} when it was refused:", then or "  not known"]
-    return "\n".join([*lines, f"on {machine} now:", *slots_of(desk, machine)])
-
-
-def brief(told: Dict[str, Any]) -> str:
-    return (
-        f"{answers.word_of(told)} at {told.get('TimeStamp')},"
-        f" {json.dumps(told.get('MessageBody'))[:300]}"
-    )
-
-
-def slots_of(desk: Desk, machine: Any) -> List[str]:
-    """The reels on a machine, as the desk has them now."""
-    try:
-        found = desk.slots(str(machine))
-    except NotThere:
-        found = []
-    return [
-        f"  slot {it.slot}: reel {it.reel}, lot {it.lot}, {it.remaining} pieces" for it in found
-    ] or ["  no reel"]

@@ -36,6 +36,7 @@ class Run:
         scans = place.spools / f"{name}-scans"
         scans.mkdir()
         self.inbox = places.Place(str(place.untraced), lambda _: desk)
+        self.decisions = places.Place(str(place.decided), lambda _: desk)
         inbox = None if planted else self.inbox
         machines: dict[str, list[str]] = {"machine": [name], "tablet": []}
         self.sources = {
@@ -163,10 +164,13 @@ class Run:
         """Somebody decides of the refused reel that it was taken off."""
         kept = self.sources["tablet"].spool
         refused = kept.kept(kept.names("aside")[-1]).record
-        more = {"Became": doubts.TAKEN_OFF, "Of": refused, "Reason": "saw it"}
+        self.decided(refused, doubts.TAKEN_OFF)
+
+    def decided(self, of: str, became: str) -> None:
+        """A person decides about a record, at the line."""
+        more = {"Became": became, "Of": of, "Reason": "saw it"}
         name, text = records.record("decided", "A. Person", Clock.text(), **more)
-        if self.inbox.beside:
-            self.inbox.beside.put(f"{name}.json", text)
+        self.decisions.put(f"{name}.json", text)
 
     def change(self, slot: str) -> None:
         """A reel is taken off a slot, and another one put there. Some forget to scan what they take
@@ -253,15 +257,18 @@ class Run:
     # --- Persons
 
     def decide(self) -> None:
-        """A person decides about what was refused: mostly what became of the boards; that it is
-        sent again only where nothing was done since."""
+        """A person decides about what was refused: what became of a board; that a request is sent
+        again. Planted: all of it is said once more, also reports of work."""
         machine = self.sources["machine"].spool
         if self.planted:
             for name, source in self.sources.items():
-                source.spool.again(source.spool.names("aside"), decided=True)
+                kept = source.spool
+                for it in kept.names("aside"):
+                    kept.put(kept.text(it))
+                    kept.drop([it])
                 self.send(name)
         elif names := [name for name in machine.names("aside") if machine.is_report(name)]:
-            machine.decide(names[-1], "A. Person", "looked at the board")
+            self.decided(machine.kept(names[-1]).record, "reworked")
         if self.random.random() < 0.3:
             self.send_request_again()
 

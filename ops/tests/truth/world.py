@@ -81,8 +81,8 @@ class Place(Line):
     def __init__(self, program: pathlib.Path, folder: pathlib.Path) -> None:
         super().__init__(program, folder)
         self.untraced, self.spools = folder / "untraced", folder / "spools"
-        decided = folder / "decided"
-        for path in (self.archive, self.untraced, decided, self.spools):
+        self.decided = folder / "decided"
+        for path in (self.archive, self.untraced, self.decided, self.spools):
             path.mkdir()
 
     def begin(self, messages: list[bytes]) -> None:
