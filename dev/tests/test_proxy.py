@@ -126,7 +126,11 @@ def test_own_answers_are_json(site: Site) -> None:
     if "empty URI" in (said := (site.room / "log/error.log").read_text()):
         raise Difference(said[-500:])
     log = (site.room / "log/tracedesk.log").read_text()
-    for it in (" GET /overdue 401 ", " GET /station/none 404 ", " POST /messages 413 "):
+    for it in (
+        '/overdue HTTP/1.1" 401 ',
+        '/station/none HTTP/1.1" 404 ',
+        '/messages HTTP/1.1" 413 ',
+    ):
         if it not in log:
             raise Difference(f"the log has no {it!r}: {log[-900:]}")
 
@@ -190,7 +194,7 @@ def test_untraced_work_is_put_once(site: Site) -> None:
         ("PUT", path.replace(name[-1] + ".json", "G.json"), "op", record, {}, 404),
         ("PUT", path.replace(".json", ".txt"), "op", record, {}, 404),
         ("PUT", "/line/untraced/../desk", "op", record, {}, 404),
-        ("GET", "/line/untraced/", "op", None, {}, 403),
+        ("GET", "/line/untraced/", "op", None, {}, 404),
         ("GET", path, "op", None, {}, 403),
         ("DELETE", path, "op", None, {}, 403),
         ("MKCOL", path, "op", None, {}, 403),

@@ -76,7 +76,7 @@ def test_what_the_proxy_says_for_the_desk_is_no_answer(machine: Machine) -> None
     write_messages(machine, part("S0"), part("S1"), refused, part("S3").ljust(1_048_576))
     machine.shell("systemctl stop tracedesk")
     expect_sent(machine, f"{BY_PASSWORD} --patience 1", 3, 0, "status 502")
-    tried = "grep -c ' /messages 502 ' /var/log/nginx/tracedesk.log"
+    tried = "grep -c '/messages HTTP/1.1\" 502 ' /var/log/nginx/tracedesk.log"
     before = int(machine.shell(tried))
     waiting = begin(machine, f"{BY_PASSWORD} --stop-at-refusal")
     wait_for("it has tried", lambda: int(machine.shell(tried)) > before)
