@@ -113,8 +113,8 @@ def by_csv(room: Room) -> list[Any]:
 
 
 def test_rows_of_a_file_that_grows_are_records(room: Room) -> None:
-    """Below the heading of their own file, also after a rotation and from a packed one; a row
-    that is none is kept aside with its line.
+    """Below the heading of their own file, also after a rotation; a row that is none is kept aside
+    with its line.
     """
     words = by_csv(room)
     room.file.write_text(f"{HEADING}\n{row(1)}\n")
@@ -128,7 +128,6 @@ def test_rows_of_a_file_that_grows_are_records(room: Room) -> None:
     with open(room.file, "a") as file:
         file.write(f"{row(3)[9:]}\n")
     room.file.rename(room.at / "said.log.1")
-    subprocess.run(["gzip", room.at / "said.log.1"], check=True)
     room.file.write_text(f"Board;Time;Reel;Designator\nB-4;2026-03-02 07:04:00;K-1;C1\n{row(5)}\n")
     room.run(*words, room.file, status=1)
     assert room.waiting() == ["B-1-C1", "B-2-C1", "B-3-C1", "B-4-C1"]

@@ -5,15 +5,12 @@ from __future__ import annotations
 
 import gzip
 import json
-import pathlib
-import re
 import subprocess
 import time
 import types
 from typing import Any, Callable
 
 import brokers
-import logs
 import pytest
 from at_port import PATIENCE, rows_in
 from bridge_lab import Room, line_of, one_lane, said, start
@@ -89,58 +86,26 @@ def test_a_file_is_read_on_from_where_it_was(room: Room) -> None:
     ), done.stderr.decode()
 
 
-ROTATED = (
-    "said.log.1",
-    "said.log-20261121",
-    "said-20261121.log",
-    "said-2026-11-21T06:00:00Z.log",
-    "20261121-said.log",
-    "said.1.log",
-    *(f"said-20261121.log{it}" for it in logs.PACKED),
-    "said.log.1.gz",
-)
-OTHERS = (
-    "said-old.log",
-    "unsaid.log",
-    "said",
-    "said.txt",
-    "said-20261121.log.bak",
-    "other.log.1",
-)
-
-
-def is_rotated(name: str) -> bool:
-    return bool(re.fullmatch(logs.usual_names(pathlib.Path("/var/log/said.log")), name))
-
-
-@pytest.mark.parametrize("name", ROTATED)
-def test_a_rotated_file_is_known_by_its_name(name: str) -> None:
-    assert is_rotated(name)
-
-
-@pytest.mark.parametrize("name", OTHERS)
-def test_another_file_is_no_rotated_one(name: str) -> None:
-    assert not is_rotated(name)
-
-
-def test_a_gap_is_reported_once(room: Room) -> None:
-    """A file that is gone, and two that can't be unpacked: status 1, and once."""
+def test_a_renamed_file_is_read_on_and_one_that_was_never_read_is_a_gap(room: Room) -> None:
+    """By its inode, whatever its name is. Of those that no bridge has read one is noticed by its
+    name, once: that of the log with more behind it.
+    """
+    (room.at / "said.log.9").write_bytes(start("x") + b"\n")  # of before the first run
     room.file.write_bytes(start("a") + b"\n")
     room.run(room.file)
-    room.file.unlink()
-    packed = gzip.compress(start("b"))
-    (room.at / "said.log.1.gz").write_bytes(packed[:-9])
-    (room.at / "said.log.2.gz").write_bytes(packed[:20] + b"\xff" * 20 + packed[40:])
-    room.file.write_bytes(start("c") + b"\n")
+    with open(room.file, "ab") as file:
+        file.write(start("b") + b"\n")
+    for name, uid in (("anything", "c"), ("said.log.1", "d"), ("said-1.log", "e")):
+        room.file.rename(room.at / name)
+        room.file.write_bytes(start(uid) + b"\n")
     done = room.run(room.file, status=1)
-    for it in (
-        b"was read to byte",
-        b"said.log.1.gz can't be read",
-        b"said.log.2.gz can't be read",
-        b"; 3 gaps",
-    ):
-        assert it in done.stderr, done.stderr.decode()
-    assert room.waiting() == ["a", "c"]
+    assert b"said.log.1 was never read" in done.stderr and b"; 1 gaps" in done.stderr
+    assert room.waiting() == ["a", "b", "e"]
+    room.file.unlink()
+    room.file.write_bytes(start("f") + b"\n")
+    done = room.run(room.file, status=1)
+    assert b"was read to byte" in done.stderr and b"; 1 gaps" in done.stderr
+    assert room.waiting() == ["a", "b", "e", "f"]
     room.run(room.file)
 
 
