@@ -19,7 +19,7 @@ from interlock_line import Line  # noqa: E402
 
 
 def pytest_addoption(parser: pytest.Parser) -> None:
-    about = "so many runs of senders and bridges under a model of what is outside (15)"
+    about = "so many runs of senders under a model of what is outside (15)"
     parser.addoption("--outside", type=int, default=15, metavar="N", help=about)
 
 

@@ -97,7 +97,9 @@ class Line:
     def look(self) -> None:
         """Hands records on, and writes the status."""
         with self.one:
-            self.try_to("untraced work", self.hand_on)
+            if self.inbox:
+                inbox = self.inbox
+                self.try_to("untraced work", lambda: self.hand_on(inbox))
             if self.status:
                 place, text = self.status, spelled(self.told())
                 self.try_to("the status", lambda: place.put(f"{self.spool.name}.json", text))
@@ -113,14 +115,14 @@ class Line:
                     f" {PAUSE_OF_A_FAULT:.0f} seconds"
                 )
 
-    def hand_on(self) -> None:
+    def hand_on(self, inbox: Place) -> None:
         """Hands each record on. One that isn't taken holds no other one up, unless the place takes
         none.
         """
         wrong: List[str] = []
-        for id_, text in self.spool.made() if self.inbox else []:
+        for id_, text in self.spool.made():
             try:
-                self.inbox.put(f"{id_}.json", text)
+                inbox.put(f"{id_}.json", text)
                 self.spool.handed_on(id_)
             except NotPut as fault:
                 wrong.append(f"{id_}.json: {fault}")
