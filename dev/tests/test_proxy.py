@@ -220,6 +220,8 @@ def test_untraced_work_is_put_once(site: Site) -> None:
         (204, record),
         (site.asked("PUT", path, "op", "other")[0], file.read_text()),
     )
+    for user in (None, "office", "qm"):  # nobody learns that it is there
+        agree(f"once it is there, by {user}", 401, site.asked("PUT", path, user, record)[0])
     agree("by a certificate", 201, site.asked("PUT", path, None, record, "m2")[0])
     long = "x" * 2 * 2**20  # a record of a message of 1 MiB has it twice
     agree("a long one", 201, site.asked("PUT", path.replace(name, "1" * 32), "op", long)[0])

@@ -314,7 +314,8 @@ def test_a_name_that_this_spool_used_before_is_no_archive(lab: Lab) -> None:
 def test_two_files_and_an_archive(lab: Lab) -> None:
     messages, known = lab.room / "messages", lab.room / "answers"
     messages.write_bytes(line("u1") + b"\n")
-    known.write_bytes(b"")
+    lab.server.script = [(503, {}, {"Answer": "Unavailable"})] * 99
+    assert lab.two_files("--patience", "0.1", messages, known).returncode == 3
     reused = b'{"Answer":"Refused","Number":7,"Refusal":"IdReused","UniqueID":"u1"}'
     lab.server.script = [
         (409, {}, json.loads(reused)),

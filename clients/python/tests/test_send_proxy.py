@@ -119,20 +119,13 @@ def test_a_refusal_is_an_answer_or_ends_the_run(
         expect(sent(tmp_path, url), 2, 5, "name a new file")
 
 
-def test_a_file_without_answers_is_left_as_it_is(
+def test_a_file_of_which_the_spool_is_gone_is_left_as_it_is(
     program: pathlib.Path, tmp_path: pathlib.Path
 ) -> None:
-    """As the messages' own; a line that was cut is sent again."""
-    clean = killed.fed(program, tmp_path / "desk", parts(tmp_path, 3))
-    with served(program, tmp_path) as port:
-        url, answers = f"http://127.0.0.1:{port}", tmp_path / "answers"
-        for given in (parts(tmp_path, 3)[:-1], clean[:-9].replace(b"Accepted", b"Proxy")):
-            answers.write_bytes(given)
-            expect(sent(tmp_path, url), 2, given.count(b"\n"), "is no answer of a desk")
-            assert answers.read_bytes() == given
-        answers.write_bytes(clean[:-9])
-        expect(sent(tmp_path, url), 0, 3)
-    assert answers.read_bytes() == clean
+    parts(tmp_path, 3)
+    (tmp_path / "answers").write_bytes(b"a text\n")
+    expect(sent(tmp_path, "http://127.0.0.1:1"), 2, 1, "name a new file")
+    assert not (tmp_path / "answers.spool").exists()
 
 
 def test_the_longest_message_passes(program: pathlib.Path, tmp_path: pathlib.Path) -> None:

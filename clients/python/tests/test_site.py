@@ -60,24 +60,6 @@ def put(site: Any, path: str, user: "str | None" = None, text: str = RECORD, **m
     return status
 
 
-def test_a_record_is_put_once_and_stays(site: Any) -> None:
-    file = file_of(site, PATH, "op")
-    for user in (None, "office", "qm"):
-        assert put(site, PATH, user) == 401
-    assert put(site, PATH, None, certificate="auditor") == 401
-    assert not file.exists()
-    assert (put(site, PATH, "op"), put(site, PATH, "op", "other")) == (201, 204)
-    assert (file.read_text(), file.stat().st_mode & 0o777) == (RECORD, 0o644)
-    assert [put(site, PATH, None, certificate="m2") for _ in range(2)] == [201, 204]
-    assert file_of(site, PATH, "m2").read_text() == RECORD
-    other = f"{PATH[:-9]}0000.json"
-    for user in (None, "office"):  # nobody learns whether it is there
-        assert put(site, PATH, user) == put(site, other, user) == 401
-    for method in ("GET", "DELETE", "MKCOL", "POST"):
-        assert site.asked(method, PATH, "op")[0] == 403
-    assert put(site, PATH[:-6] + "G.json", "op") in (403, 404)
-
-
 def test_no_place_of_the_line_asks_a_browser_for_a_password(site: Any) -> None:
     """A page's request, which says that it is one, is answered without a challenge."""
     for path in (PATH, DECIDED):

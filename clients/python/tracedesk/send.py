@@ -27,8 +27,8 @@ examples:
   tracedesk-send --validate first.jsonl
 
 With two files it posts the lines of MESSAGES, each with the UniqueID in it, and adds the desk's
-answers to ANSWERS. Started again, it goes on behind the last whole line of ANSWERS. It does so by a
-spool, ANSWERS.spool, which stays if something in it is left for a person.
+answers to ANSWERS. It keeps both in a spool, ANSWERS.spool. Started again, it goes on by that, and
+writes ANSWERS anew from it.
 
 With --spool it sends what waits in that file, and each message is on disk there before it is sent.
 Started again after whatever ended it, it goes on where it was. One sender has a spool at a time;
