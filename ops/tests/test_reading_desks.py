@@ -131,7 +131,7 @@ def test_names_in_another_locale(new_line: NewLine, folder: pathlib.Path) -> Non
     line.rollover().expect()
     line.more("A")
     line.seal().expect()
-    written: list[Word] = ["--evidence", folder / "evïdence", "--html", folder / "L1.html"]
+    written: list[Word] = ["--evidence", folder / "evïdence"]
     run([tool("recall"), "lot", "L1", *line.recall_words(), *written], env=env).expect()
     line.call(line.ops("check"), env=env).expect()
 

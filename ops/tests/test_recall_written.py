@@ -1,6 +1,5 @@
 """What a recall writes, whole or not at all; and the words that it doesn't take."""
 import contextlib
-import html
 import os
 import pathlib
 import subprocess
@@ -20,17 +19,17 @@ L1-000001,Customer A,2026-03-05,
 L1-000001,Customer B,2026-04-01,again
 """
 EVIDENCE = """SHA256SUMS asked.csv boards.csv
-    certificate.json chain-1.csv chain-2.csv doubtful.csv pieces.csv question.txt recall.html
+    certificate.json chain-1.csv chain-2.csv doubtful.csv pieces.csv question.txt
     reels.csv shipped.csv untraced.csv""".split()
 FAILS = "from tracedesk_ops import doubts; doubts.look = lambda *_: 1 / 0"
 
 
 class Written:
-    """A recall over both lines, whose page and evidence are written into a folder."""
+    """A recall over both lines, whose evidence is written into a folder."""
 
     def __init__(self, world: World, folder: pathlib.Path) -> None:
         self.world, self.folder, self.lot = world, folder, lot_of(world)
-        self.page, self.evidence = folder / "page.html", folder / "evidence"
+        self.evidence = folder / "evidence"
         lines = [f"{line.name},{os.path.relpath(line.folder, folder)}\n" for line in world.lines]
         (folder / "lines.csv").write_text("line,folder\n" + "".join(lines))
         self.shipped = folder / "shipped.csv"
@@ -46,10 +45,10 @@ def written(world: World, folder: pathlib.Path) -> Written:
     return Written(world, folder)
 
 
-def test_nothing_but_the_page_and_the_evidence_is_written(written: Written) -> None:
+def test_nothing_but_the_evidence_is_written(written: Written) -> None:
     before = set(written.folder.iterdir())
-    written.recall("--html", written.page, "--evidence", written.evidence).expect()
-    assert set(written.folder.iterdir()) - before == {written.page, written.evidence}
+    written.recall("--evidence", written.evidence).expect()
+    assert set(written.folder.iterdir()) - before == {written.evidence}
 
 
 def test_boards_have_their_customers(written: Written) -> None:
@@ -76,26 +75,11 @@ def test_the_evidence_is_whole(written: Written) -> None:
     assert all(file.name in listed for file in written.world.first.archived)
 
 
-def test_the_page_has_the_boards(written: Written) -> None:
-    boards = table(written.recall("--html", written.page).expect().out)
-    page = written.page.read_text()
-    names = [row["board"] for row in boards]
-    for text in (
-        *names,
-        written.lot,
-        "Customer A; Customer B",
-        "All were asked: 7 files",
-    ):
-        assert html.escape(text) in page
-
-
-@pytest.mark.parametrize("option", ["--html", "--evidence"])
-def test_nothing_is_overwritten(written: Written, option: str) -> None:
-    to = written.page if option == "--html" else written.evidence
-    written.recall(option, to).expect()
-    kept = {file: file.read_bytes() for file in (to, *to.glob("*")) if file.is_file()}
-    written.recall(option, to).expect(4)
-    assert {file: file.read_bytes() for file in kept} == kept
+def test_nothing_is_overwritten(written: Written) -> None:
+    written.recall("--evidence", written.evidence).expect()
+    kept = {file: file.read_bytes() for file in written.evidence.iterdir()}
+    written.recall("--evidence", written.evidence).expect(4)
+    assert {file: file.read_bytes() for file in written.evidence.iterdir()} == kept
 
 
 # --- Where nothing can be written
@@ -111,13 +95,13 @@ def test_without_standard_output_it_says_so(words: list[str]) -> None:
     run(["sh", "-c", '"$@" >&-', "sh", *words]).expect(4, "standard output is closed")
 
 
-def test_with_a_full_standard_output_the_page_is_written(
+def test_with_a_full_standard_output_the_evidence_is_written(
     words: list[str], folder: pathlib.Path
 ) -> None:
     with open("/dev/full", "w", encoding="ascii") as full:
-        done = run([*words, "--html", folder / "full.html"], out=full)
+        done = run([*words, "--evidence", folder / "full"], out=full)
     done.expect(4, "standard output: No space left")
-    assert (folder / "full.html").exists()
+    assert (folder / "full").exists()
 
 
 @contextlib.contextmanager
@@ -134,18 +118,15 @@ def full_disk(at: pathlib.Path) -> Iterator[None]:
 
 @pytest.mark.root
 @pytest.mark.gate
-@pytest.mark.parametrize("option", ["--html", "--evidence"])
-def test_a_full_disk_gets_nothing(words: list[str], folder: pathlib.Path, option: str) -> None:
+def test_a_full_disk_gets_nothing(words: list[str], folder: pathlib.Path) -> None:
     with full_disk(folder / "disk"):
-        run([*words, option, folder / "disk/it"]).expect(4)
+        run([*words, "--evidence", folder / "disk/it"]).expect(4)
         assert [file.name for file in (folder / "disk").iterdir()] == ["filler"]
 
 
-@pytest.mark.parametrize("option", ["--html", "--evidence"])
-def test_a_name_that_is_too_long_is_refused(
-    world: World, folder: pathlib.Path, option: str
-) -> None:
-    recall("lot", "X", *world.first.recall_words(), option, folder / ("x" * 300)).expect(4)
+def test_a_name_that_is_too_long_is_refused(world: World, folder: pathlib.Path) -> None:
+    to = folder / ("x" * 300)
+    recall("lot", "X", *world.first.recall_words(), "--evidence", to).expect(4)
 
 
 # --- Names and words

@@ -5,8 +5,8 @@ usage: tracedesk-recall lot NAME.. [--part PART] [OPTION]..
        tracedesk-recall reel NAME.. [OPTION]..
        tracedesk-recall where ATTRIBUTE=VALUE.. [OPTION]..
 options:                [--line LINE FOLDER].. [--lines FILE]
-                        [--show TABLE] [--shipped FILE] [--customer NAME] [--html FILE] [--evidence
-                        FOLDER] [--key FILE | --unsigned]
+                        [--show TABLE] [--shipped FILE] [--customer NAME]
+                        [--evidence FOLDER [--key FILE | --unsigned]]
 
 examples:
   tracedesk-recall lot L-77            of the lines that are set up on this machine, by
@@ -49,14 +49,13 @@ is 3.
 --customer NAME  with --shipped and --evidence: the evidence has the serials of this customer alone,
                  also those that hold no
                 piece, and nothing of other boards; a serial that no line knows makes it incomplete
---html FILE     one page to print, with all of it
---evidence FOLDER  all of it as CSV and HTML, the program's answers, a certificate, checksums and a
+--evidence FOLDER  all of it as CSV, the program's answers, a certificate, checksums and a
                    signature: tracedesk-verify verifies it
 --key FILE      the private key that signs the evidence, as ssh-keygen makes it; without it the
                 `key` of the line's set-up file
 --unsigned      the evidence is not signed, and its certificate says so
 
-FILE of --html and FOLDER must not be there yet. Each gets its name once it is whole.
+FOLDER of --evidence must not be there yet. It gets its name once it is whole.
 
 Exit status: 0 all were asked; 1 all were asked, and none knows the name; 2 bad command line, or a
 list that can't be read; 3 not all were asked, the archives are no chain, pieces are counted twice,
@@ -72,10 +71,10 @@ import pathlib
 from tracedesk_ops import catalogue, chains, files, places, plant
 from tracedesk_ops.firstlook import Line, Question
 from tracedesk_ops.recalls import customers, sets, signing, words
-from tracedesk_ops.recalls.certificate import bytes_of, programs
-from tracedesk_ops.recalls.evidence import LISTED, evidence, listing, write_beside, write_evidence
+from tracedesk_ops.recalls.certificate import programs
+from tracedesk_ops.recalls.evidence import LISTED, evidence, listing, write_evidence
 from tracedesk_ops.recalls.recall import Recall
-from tracedesk_ops.recalls.tables import Shipped, Table, page, tables_of
+from tracedesk_ops.recalls.tables import Shipped, Table, tables_of
 
 NICE = 5  # the line beside it goes first
 FORMULAS = ("=", "+", "-", "@")  # how a cell begins that a spreadsheet takes for one
@@ -136,7 +135,7 @@ def answer(asks: argparse.Namespace, room: pathlib.Path) -> int:
         )
     tell(recall)
     try:
-        write(asks, recall, tables, shipped, own, key)
+        write(asks, recall, tables, own, key)
     except (plant.Fault, signing.NoSignature) as fault:
         words.stop(f"the answer can't be written: {fault}", 4)
     if recall.faults or recall.breaks:
@@ -184,21 +183,18 @@ def write(
     asks: argparse.Namespace,
     recall: Recall,
     tables: dict[str, Table],
-    shipped: Shipped | None,
     own: dict[str, Table] | None,
     key: pathlib.Path | None,
 ) -> None:
-    """Writes the page and the evidence, and prints the table."""
-    if asks.html or asks.evidence:
+    """Writes the evidence, and prints the table."""
+    if asks.evidence:
         used = programs(asks.program)
         signed_by = signing.fingerprint(key) if key else ""
-        paper = page(recall, tables, shipped, used[0].version)
-        its = evidence(recall, tables, asks.shipped, paper, used, signed_by)
-        if own:
-            its = customers.contents(recall, own, used, signed_by)
-    if asks.html:
-        write_beside(asks.html, bytes_of(paper))
-    if asks.evidence:
+        its = (
+            customers.contents(recall, own, used, signed_by)
+            if own
+            else evidence(recall, tables, asks.shipped, used, signed_by)
+        )
         write_evidence(asks.evidence, its, key)
         if not key:
             plant.tell("the evidence is not signed: a reader can't know who made it (--key)")

@@ -2,7 +2,6 @@
 from __future__ import annotations
 
 import contextlib
-import html
 import sqlite3
 from collections.abc import Iterable
 
@@ -103,23 +102,4 @@ def contents(
         **{f"{name}.csv": bytes_of(catalogue.csv_text(table)) for name, table in its.items()},
         certificate.FILE_NAME: certificate.as_json(told),
         "question.txt": bytes_of(certificate.as_text(told)),
-        "recall.html": bytes_of(page(recall, its, told["customer"])),
     }
-
-
-def page(recall: Recall, its: dict[str, Table], told: str) -> str:
-    """One page to print."""
-    title = html.escape(tables.title_of(recall.question))
-    kind = "whole" if recall.status() in (0, 1, 5) else "missing"
-    missing = "" if kind == "whole" else "<p>NOT COMPLETE: question.txt says why.</p>"
-    body = "".join(
-        f"<h2>{name.capitalize()}</h2>{tables.html_table(table)}"
-        for name, table in its.items()
-        if len(table) > 1
-    )
-    return (
-        f'<!DOCTYPE html>\n<html lang="en"><head><meta charset="utf-8"><title>{title}</title>'
-        f"<style>{tables.STYLE}</style></head><body>\n<h1>{title}</h1>\n"
-        f"<p>Asked at {recall.minute:%Y-%m-%d %H:%M} UTC.</p>\n"
-        f'<div class="{kind}"><p>{html.escape(told)}</p>{missing}</div>{body}\n</body></html>\n'
-    )

@@ -1,4 +1,4 @@
-"""What a recall writes: a page, or a folder of evidence, whole or not at all."""
+"""The evidence that a recall writes: a folder, whole or not at all."""
 from __future__ import annotations
 
 import contextlib
@@ -29,13 +29,6 @@ def write(path: pathlib.Path, content: bytes) -> None:
         file.write(content)
         file.flush()
         os.fsync(file.fileno())
-
-
-def write_beside(path: pathlib.Path, content: bytes) -> None:
-    """A new file, whole or not at all; one that is there stays."""
-    with named(path), files.Room(f".{path.name}-", path.parent) as room:
-        write(pathlib.Path(room, "new"), content)
-        os.link(f"{room}/new", path)
 
 
 @contextlib.contextmanager
@@ -83,7 +76,6 @@ def evidence(
     recall: Recall,
     tables: dict[str, Table],
     shipped: pathlib.Path | None,
-    paper: str,
     used: Iterable[ProgramFile],
     signed_by: str,
 ) -> Contents:
@@ -95,7 +87,6 @@ def evidence(
     contents |= {
         certificate.FILE_NAME: certificate.as_json(told),
         "question.txt": bytes_of(certificate.as_text(told)),
-        "recall.html": bytes_of(paper),
     }
     if recall.question.reels:
         contents[LISTED] = listing(recall.question)

@@ -39,7 +39,6 @@ def parse(text: str | None) -> argparse.Namespace:
     for option, metavar in (
         ("lines", "FILE"),
         ("shipped", "FILE"),
-        ("html", "FILE"),
         ("evidence", "FOLDER"),
         ("key", "FILE"),
     ):
@@ -70,22 +69,14 @@ def want_sense(words: argparse.Namespace) -> None:
             sets.terms_of(words.names)
         except ValueError as fault:
             stop(str(fault))
-    if words.customer and not (words.shipped and words.evidence and not words.html):
-        stop(
-            "--customer wants --shipped and --evidence, and has no --html: the evidence has a page"
-        )
+    if words.customer and not (words.shipped and words.evidence):
+        stop("--customer wants --shipped and --evidence")
     if words.key and words.unsigned:
         stop("--key signs the evidence, and --unsigned doesn't: say one of them")
-    for path in (words.html, words.evidence):
-        if path and (os.path.lexists(path) or not os.path.isdir(path.absolute().parent)):
-            stop(
-                (
-                    f"{path}: it is there already, and nothing is overwritten"
-                    if os.path.lexists(path)
-                    else f"{path}: there is no folder for it"
-                ),
-                4,
-            )
+    if words.evidence and os.path.lexists(words.evidence):
+        stop(f"{words.evidence}: it is there already, and nothing is overwritten", 4)
+    if words.evidence and not os.path.isdir(words.evidence.absolute().parent):
+        stop(f"{words.evidence}: there is no folder for it", 4)
 
 
 def rows_of(path: pathlib.Path, header: Sequence[str]) -> Iterator[list[str]]:
