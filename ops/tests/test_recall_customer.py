@@ -7,6 +7,7 @@ from typing import Iterator
 import pytest
 from lab import small
 from lab.line import Line, table
+from lab.recalls import key_in, signers_of
 from lab.tools import Ended, Word, run_tool
 
 pytestmark = pytest.mark.xdist_group("recall_customer")
@@ -38,7 +39,8 @@ def recall(line: Line, folder: pathlib.Path, shipped: str, *more: Word) -> Ended
 
 
 def test_a_customer_gets_their_serials_alone(line: Line, folder: pathlib.Path) -> None:
-    done = recall(line, folder, SHIPPED)
+    key = key_in(folder, "plant")
+    done = recall(line, folder, SHIPPED, "--key", key)
     done.expect(0, "Of your 2 serials 1 hold a piece, 1 hold none.")
     rows = table((folder / "to/serials.csv").read_text())
     assert [(row["board"], row["holds"]) for row in rows] == [("SN-1", "yes"), ("SN-3", "no")]
@@ -47,8 +49,8 @@ def test_a_customer_gets_their_serials_alone(line: Line, folder: pathlib.Path) -
         text = file.read_text()
         assert "SN-2" not in text and "SN-4" not in text and "Customer B" not in text, file
         assert str(line.folder) not in text and "127.0.0.1" not in text, file
-    again = run_tool("verify", folder / "to", "--archives", line.archive)
-    again.expect(3, "the answer comes again", "it is not signed")
+    words: list[Word] = [folder / "to", "--signers", signers_of(key), "--archives", line.archive]
+    run_tool("verify", *words).expect(0, "the answer comes again", "complete. Of your 2")
 
 
 def test_a_serial_that_nobody_knows_is_named(line: Line, folder: pathlib.Path) -> None:

@@ -126,7 +126,7 @@ HOSTILE: dict[str, tuple[Any, ...]] = {  # of a question: its kind, its names an
     "a program": ("lot", ["L", "--program", "/bin/true"], ""),
     "a key": ("lot", ["--key=/etc/tracedesk/recall-key"], ""),
     "evidence": ("lot", ["--evidence", "/var/lib/tracedesk/x"], ""),
-    "a part": ("lot", ["L"], "--unsigned"),
+    "a part": ("lot", ["L"], "--key=/tmp/key"),
     "a kind": ("--evidence=/tmp/x", ["L"], ""),
     "no list": ("lot", "L", ""),
     "no text": ("lot", [7], ""),
@@ -159,7 +159,7 @@ def test_a_name_in_the_queue_is_no_option(
     with mock.patch.object(sys, "argv", ["tracedesk-recall", *argv]):
         asks = words.parse("")
     assert (asks.kind, asks.names, asks.part) == (kind, names, part or None)
-    assert (asks.program, asks.key, asks.unsigned) == ("tracedesk", None, False)
+    assert (asks.program, asks.key) == ("tracedesk", None)
 
 
 LINKS = """

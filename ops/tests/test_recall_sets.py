@@ -9,6 +9,7 @@ from typing import Iterator
 import pytest
 from lab import files, messages, small
 from lab.line import Line, NewLine, table
+from lab.recalls import key_in, signers_of
 from lab.tools import Ended, Word, run_tool
 from tracedesk_ops import attributes, plant
 from tracedesk_ops.recalls import sets
@@ -88,12 +89,13 @@ def test_several_reels_are_one_recall(line: Line) -> None:
 
 def test_the_evidence_of_a_set_names_its_reels(line: Line, folder: pathlib.Path) -> None:
     to = folder / "evidence"
-    recall(line, "reel", "K-2", "K-4", "--evidence", to).expect()
+    key = key_in(folder, "plant")
+    recall(line, "reel", "K-2", "K-4", "--key", key, "--evidence", to).expect()
     assert (to / "asked-reels.txt").read_text() == "K-2\nK-4\n"
     chain = json.loads((to / "certificate.json").read_text())["lines"][0]["chain"]
     assert chain["words"] == ["reels", "asked-reels.txt", "--pieces"]
-    again = run_tool("verify", to, "--archives", line.archive)
-    again.expect(3, "the answer comes again from its 1 archives")
+    again = run_tool("verify", to, "--signers", signers_of(key), "--archives", line.archive)
+    again.expect(0, "the answer comes again from its 1 archives")
 
 
 # --- Attributes

@@ -111,7 +111,7 @@ class Chain:
     def by_page(self, asked: Asked) -> set[str]:
         """The boards in the table that the page makes of the evidence."""
         evidence = self.room / "evidence"
-        words = [*asked.words, *self.line.recall_words(), "--unsigned", "--evidence", evidence]
+        words = [*asked.words, *self.line.recall_words(), "--evidence", evidence]
         done = call_tool("recall", *words)
         if done.status == 1 and not asked.reels:
             return set()

@@ -8,9 +8,9 @@ from typing import Any, Iterator
 import pytest
 from lab import messages
 from lab.line import Line, table
+from lab.recalls import key_in, signers_of
 from lab.tools import SENDER, Ended, Word, run, run_tool
 from tracedesk_ops import untraced
-from tracedesk_ops.recalls import verifying
 
 FIRST, LATER = "2026-03-02T06:00:00Z", "2026-03-03T12:00:00Z"
 SHEET = [{"Slot": "1", "PartNumber": "P", "Designators": ["C1"]}]
@@ -127,9 +127,10 @@ def test_a_report_with_any_text_is_kept_recalled_and_verified(plant: Plant, name
     assert not book.faults and len(book.records) == len(said)
     assert {base64.b64decode(record.told["Raw"]) for record in book.records} == set(said)
     evidence = plant.line.folder / "evidence"
-    words: list[Word] = [*plant.line.recall_words(), "--evidence", evidence, "--unsigned"]
+    key = key_in(plant.line.folder.parent, "key")
+    words: list[Word] = [*plant.line.recall_words(), "--evidence", evidence, "--key", key]
     run_tool("recall", "lot", "L-K-1", *words).expect(3, "nobody decided about it")
-    verifying.told_in(verifying.contents_of(evidence))
+    run_tool("verify", evidence, "--signers", signers_of(key)).expect()
     for record in book.records:
         plant.decide(record.id, "scrapped")
     plant.recall("L-K-1", 0)

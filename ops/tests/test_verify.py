@@ -14,7 +14,7 @@ from typing import Any, Iterator
 
 import pytest
 from lab.line import table
-from lab.recalls import lot_of, recall
+from lab.recalls import key_in, lot_of, recall, signers_of
 from lab.tools import Ended, Word, run, run_tool
 from lab.world import RUNNING, World
 from tracedesk_ops.cmd import verify
@@ -31,9 +31,8 @@ class Plant:
 
     def __init__(self, world: World, folder: pathlib.Path) -> None:
         self.world, self.folder, self.lot = world, folder, lot_of(world)
-        self.key, self.signers = key_in(folder, "plant"), folder / "signers"
-        public = self.key.with_suffix(".pub").read_text()
-        self.signers.write_text(f'plant namespaces="tracedesk-recall" {public}')
+        self.key = key_in(folder, "plant")
+        self.signers = signers_of(self.key)
         self.evidence = folder / "evidence"
         self.recall("--key", self.key, "--evidence", self.evidence).expect()
 
@@ -44,6 +43,10 @@ class Plant:
         """A copy of the evidence, in which something may be changed."""
         shutil.copytree(self.evidence, self.folder / name)
         return self.folder / name
+
+    @staticmethod
+    def sums_of_anybody(folder: pathlib.Path, sums: bytes) -> None:
+        (folder / signing.SUMS).write_bytes(sums)
 
     def sums_anew(self, folder: pathlib.Path) -> None:
         left_out = (signing.SUMS, signing.SIGNATURE)
@@ -64,12 +67,6 @@ class Plant:
         for line in self.world.lines:
             words += ["--archives", line.archive]
         return words
-
-
-def key_in(folder: pathlib.Path, name: str) -> pathlib.Path:
-    key = folder / name
-    run(["ssh-keygen", "-q", "-t", "ed25519", "-N", "", "-C", name, "-f", key]).expect()
-    return key
 
 
 @pytest.fixture(scope="module")
@@ -107,7 +104,10 @@ def without_a_row(folder: pathlib.Path) -> None:
 
 
 def test_what_the_plant_signed_is_verified(plant: Plant) -> None:
-    plant.verify(plant.evidence).expect(0, "signed by plant", "verified")
+    done = plant.verify(plant.evidence).expect(0, "signed by plant", "verified")
+    assert (
+        f"lot {plant.lot}, asked at " in done.err and "of the lines L1, L2: complete." in done.err
+    )
 
 
 def test_the_answer_comes_again_from_the_archives(plant: Plant) -> None:
@@ -153,10 +153,9 @@ def test_a_set_up_file_names_the_key(plant: Plant, folder: pathlib.Path) -> None
 def status_of(folder: pathlib.Path, signers: pathlib.Path) -> str:
     """Why evidence is refused; empty if it isn't."""
     try:
-        contents = verifying.contents_of(folder)
-        signing.signer(folder, (folder / signing.SUMS).read_bytes(), signers)
-        verifying.want_pieces(contents, verifying.told_in(contents))
-    except (verifying.Refused, signing.NoSignature) as fault:
+        who, contents = verifying.signed(folder, signers)
+        verifying.told_in(contents, who)
+    except verifying.Refused as fault:
         return str(fault)
     return ""
 
@@ -194,7 +193,7 @@ def test_a_signature_of_anybody_else_is_refused(plant: Plant) -> None:
 def test_evidence_whose_signature_is_gone_is_refused(plant: Plant) -> None:
     folder = plant.copy("stripped")
     (folder / signing.SIGNATURE).unlink()
-    plant.verify(folder).expect(1, "REFUSED", "not signed")
+    plant.verify(folder).expect(1, "REFUSED", "SHA256SUMS.sig is missing")
 
 
 @pytest.mark.parametrize("name", ["pieces.csv", "chain-1.csv"])
@@ -214,7 +213,7 @@ def test_the_answer_of_another_chain_is_refused(plant: Plant) -> None:
     """Also if the plant's own key signs it."""
     folder, other = plant.copy("other-chain"), plant.folder / "other-lot"
     second = plant.world.second
-    plant.recall("--unsigned", "--evidence", other, lot="X").expect(1)
+    plant.recall("--key", plant.key, "--evidence", other, lot="X").expect(1)
     shutil.copy(other / "chain-1.csv", folder)
     plant.verify(folder).expect(1, "chain-1.csv was changed")
     plant.sign_anew(folder, plant.key)
@@ -246,28 +245,76 @@ def test_without_the_archives_at_hand_nothing_is_said_of_them(plant: Plant) -> N
     done.expect(1, "is in none of the folders")
 
 
-# --- What nobody knows
+def test_evidence_that_says_another_key_signs_it_is_refused(plant: Plant) -> None:
+    """Also if the plant's own key signs it."""
+    folder = plant.copy("another-key")
+    told = told_in(folder)
+    (folder / "certificate.json").write_text(json.dumps({**told, "signed_by": "SHA256:x"}))
+    plant.sign_anew(folder, plant.key)
+    plant.verify(folder).expect(1, "REFUSED: its certificate says that it is signed by SHA256:x")
 
 
-def test_unsigned_evidence_is_not_verified(plant: Plant) -> None:
+# --- What is read
+
+
+def test_nothing_is_read_before_the_signature(
+    plant: Plant, monkeypatch: pytest.MonkeyPatch
+) -> None:
+    """Of 40 GB in a file nothing, and of long checksums no more than evidence has."""
+    folder = plant.copy("large")
+    with open(folder / "pieces.csv", "r+b") as file:
+        file.truncate(40 << 30)
+    asked: list[str] = []
+    read = verifying.read
+
+    def noted(folder: pathlib.Path, name: str, most: int) -> bytes:
+        asked.append(name)
+        return read(folder, name, most)
+
+    monkeypatch.setattr(verifying, "read", noted)
+    plant.sums_of_anybody(folder, b"0" * 64 + b"  x\n")
+    assert "the signature doesn't hold" in status_of(folder, plant.signers)
+    assert asked == [signing.SUMS, signing.SIGNATURE]
+    plant.sums_of_anybody(folder, b"x" * (33 << 20))
+    assert status_of(folder, plant.signers) == f"{signing.SUMS} is longer than evidence is"
+
+
+def test_a_file_that_is_longer_than_evidence_is_refused(
+    plant: Plant, monkeypatch: pytest.MonkeyPatch
+) -> None:
+    monkeypatch.setattr(verifying, "MOST", 1 << 20)
+    folder = plant.copy("sparse")
+    with open(folder / "pieces.csv", "r+b") as file:
+        file.truncate(40 << 30)
+    assert status_of(folder, plant.signers) == "pieces.csv is longer than evidence is"
+
+
+@pytest.mark.parametrize("name", [signing.SUMS, signing.SIGNATURE, "pieces.csv"])
+def test_a_link_in_evidence_is_refused(plant: Plant, name: str) -> None:
+    folder = plant.copy(f"link-{name}")
+    (folder / name).unlink()
+    (folder / name).symlink_to(plant.evidence / name)
+    assert f"{name} can't be read" in status_of(folder, plant.signers)
+
+
+# --- What nobody signs
+
+
+def test_unsigned_evidence_is_refused(plant: Plant) -> None:
     folder = plant.folder / "unsigned"
-    plant.recall("--unsigned", "--evidence", folder).expect(0, "not signed")
+    plant.recall("--evidence", folder).expect(0, "not signed")
     assert told_in(folder)["signed_by"] == "nobody"
-    run_tool("verify", folder).expect(3, "NOT KNOWN: it is not signed")
-    plant.verify(folder).expect(1, "REFUSED")
-
-
-def test_without_signers_nobody_knows_who_signed(plant: Plant) -> None:
-    run_tool("verify", plant.evidence).expect(3, "NOT KNOWN: it is signed")
+    plant.verify(folder).expect(1, "REFUSED: SHA256SUMS.sig is missing")
 
 
 def test_a_key_that_nobody_may_read_signs_nothing(plant: Plant) -> None:
     done = plant.recall("--key", plant.folder / "none", "--evidence", plant.folder / "nothing")
-    done.expect(4, "--unsigned")
+    done.expect(4, "can't be used as a key")
     assert not (plant.folder / "nothing").exists()
 
 
 def test_words_that_are_not_taken(plant: Plant) -> None:
     run_tool("verify", plant.folder / "none").expect(2)
     run_tool("verify", plant.evidence, "--signers", plant.folder / "none").expect(2)
+    run_tool("verify", plant.evidence).expect(2)
     assert verify.NOT_KNOWN == 3

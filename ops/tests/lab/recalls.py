@@ -57,6 +57,19 @@ def recalled(*words: Word, status: int = 0) -> Rows:
     return table(recall(*words).expect(status).out)
 
 
+def key_in(folder: pathlib.Path, name: str) -> pathlib.Path:
+    """A new key for signatures, and next to it NAME.signers, by which its signatures count."""
+    key = folder / name
+    run(["ssh-keygen", "-q", "-t", "ed25519", "-N", "", "-C", name, "-f", key]).expect()
+    public = key.with_suffix(".pub").read_text()
+    signers_of(key).write_text(f'{name} namespaces="tracedesk-recall" {public}')
+    return key
+
+
+def signers_of(key: pathlib.Path) -> pathlib.Path:
+    return key.with_suffix(".signers")
+
+
 def files_of(pieces: Rows) -> set[str]:
     return {row["file"] for row in pieces}
 

@@ -6,7 +6,7 @@ usage: tracedesk-recall lot NAME.. [--part PART] [OPTION]..
        tracedesk-recall where ATTRIBUTE=VALUE.. [OPTION]..
 options:                [--line LINE FOLDER].. [--lines FILE]
                         [--show TABLE] [--shipped FILE] [--customer NAME]
-                        [--evidence FOLDER [--key FILE | --unsigned]]
+                        [--evidence FOLDER [--key FILE]]
 
 examples:
   tracedesk-recall lot L-77            of the lines that are set up on this machine, by
@@ -52,8 +52,7 @@ is 3.
 --evidence FOLDER  all of it as CSV, the program's answers, a certificate, checksums and a
                    signature: tracedesk-verify verifies it
 --key FILE      the private key that signs the evidence, as ssh-keygen makes it; without it the
-                `key` of the line's set-up file
---unsigned      the evidence is not signed, and its certificate says so
+                `key` of the line's set-up file. If that has none, the evidence is not signed
 
 FOLDER of --evidence must not be there yet. It gets its name once it is whole.
 

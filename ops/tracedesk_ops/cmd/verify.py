@@ -1,15 +1,16 @@
 """Verifies the evidence of a recall: who signed it, that nothing in it was changed, and its answer.
 
-usage: tracedesk-verify FOLDER [--signers FILE] [--archives FOLDER].. [--program FILE]
+usage: tracedesk-verify FOLDER --signers FILE [--archives FOLDER].. [--program FILE]
 
 examples:
   tracedesk-verify L-77 --signers plant.signers
   tracedesk-verify L-77 --signers plant.signers --archives /var/lib/tracedesk/archive
 
-FOLDER is what tracedesk-recall --evidence wrote. Each file in it must have the checksum of
-SHA256SUMS, no other file may be there, and the signature must be by a key of FILE. Its tables must
-be those that its certificate names. With the archives at hand tracedesk-chain is asked again, and
-must give the same answer. A running desk has gone on since: its part is not asked again.
+FOLDER is what tracedesk-recall --evidence wrote. SHA256SUMS must have a signature by a key of FILE:
+nothing else is read before. Each file that it names must be there with its checksum, and no other.
+Its tables must be those that its certificate names. With the archives at hand tracedesk-chain is
+asked again, and must give the same answer. A running desk has gone on since: its part is not asked
+again. Standard error says what was asked, when, of which lines, and whether the answer is complete.
 
 --signers FILE     whose signatures count: lines as `plant namespaces="tracedesk-recall" ssh-ed25519
                    AAAA..`, which the plant gives you by another way than with the evidence
@@ -21,9 +22,8 @@ Without our tools: ssh-keygen -Y verify -f FILE -I plant -n tracedesk-recall -s 
 SHA256SUMS
 and then:          sha256sum --check --strict SHA256SUMS
 
-Exit status: 0 verified; 1 refused: it is not what the plant gave, or the answer doesn't come again;
-2 bad command line; 3 nothing was changed since it was written, and nobody knows by whom: it is
-unsigned, or --signers is missing, or tracedesk-chain gives no answer; 9 an unexpected failure.
+Exit status: 0 verified; 1 refused: it is not what the plant gave and signed, or the answer doesn't
+come again; 2 bad command line; 3 tracedesk-chain gives no answer; 9 an unexpected failure.
 """
 from __future__ import annotations
 
@@ -33,9 +33,7 @@ import pathlib
 import sys
 
 from tracedesk_ops import chains, files, plant, reader_of
-from tracedesk_ops.recalls import signing, verifying
-from tracedesk_ops.recalls.signing import SIGNATURE, SUMS
-from tracedesk_ops.recalls.verifying import Refused
+from tracedesk_ops.recalls import verifying
 
 GENUINE, REFUSED, NOT_KNOWN = 0, 1, 3
 
@@ -43,7 +41,7 @@ GENUINE, REFUSED, NOT_KNOWN = 0, 1, 3
 def parse() -> argparse.Namespace:
     reader = reader_of(__doc__)
     reader.add_argument("folder", type=pathlib.Path, metavar="FOLDER", help="the evidence")
-    reader.add_argument("--signers", type=pathlib.Path, metavar="FILE")
+    reader.add_argument("--signers", type=pathlib.Path, metavar="FILE", required=True)
     reader.add_argument(
         "--archives", type=pathlib.Path, action="append", default=[], metavar="FOLDER"
     )
@@ -52,50 +50,20 @@ def parse() -> argparse.Namespace:
     for folder in (words.folder, *words.archives):
         if not folder.is_dir():
             reader.error(f"there is no folder {folder}")
-    if words.signers and not words.signers.is_file():
+    if not words.signers.is_file():
         reader.error(f"there is no file {words.signers}")
     return words
 
 
-def signed(words: argparse.Namespace) -> str:
-    """Why it isn't known who made the evidence; empty if a signer did. A Refused if none of them
-    did.
-    """
-    if words.signers:
-        if not (words.folder / SIGNATURE).exists():
-            raise Refused(f"it is not signed: there is no {SIGNATURE}")
-        try:
-            sums = (words.folder / SUMS).read_bytes()
-            who = signing.signer(words.folder, sums, words.signers)
-        except signing.NoSignature as fault:
-            raise Refused(f"the signature doesn't hold: {fault}") from fault
-        plant.tell(f"signed by {who}")
-        return ""
-    if (words.folder / SIGNATURE).exists():
-        return "it is signed, and nobody looked by whom: say --signers"
-    return "it is not signed: anybody can have made it"
-
-
 def verify(words: argparse.Namespace) -> int:
-    contents = verifying.contents_of(words.folder)
-    doubt = signed(words)
-    told = verifying.told_in(contents)
-    if not doubt and told["signed_by"] == "nobody":
-        raise Refused("its certificate says that nobody signs it")
-    verifying.want_pieces(contents, told)
-    if words.archives:
-        with files.Room() as room:
-            its = (contents, told, words.archives, words.program, pathlib.Path(room))
-            for text in verifying.again(*its):
-                plant.tell(text)
-    if doubt:
-        plant.tell(f"NOT KNOWN: {doubt}")
-        return NOT_KNOWN
-    answer = told["answer"]
-    if not answer["is_complete"]:
-        plant.tell(
-            "it is genuine, and says of itself that its answer is not complete: question.txt"
-        )
+    who, contents = verifying.signed(words.folder, words.signers)
+    told = verifying.told_in(contents, who)
+    plant.tell(f"signed by {who.name}")
+    with files.Room() as room:
+        its = (contents, told, words.archives, words.program, pathlib.Path(room))
+        for text in verifying.again(*its) if words.archives else ():
+            plant.tell(text)
+    plant.tell(verifying.said(told))
     print("verified")
     return GENUINE
 
@@ -104,7 +72,7 @@ def main() -> int:
     words = parse()
     try:
         return verify(words)
-    except Refused as fault:
+    except verifying.Refused as fault:
         plant.tell(f"REFUSED: {fault}")
         return REFUSED
     except (chains.NoAnswer, plant.Fault, OSError) as fault:

@@ -18,7 +18,7 @@ from tracedesk_ops.firstlook import Line
 from tracedesk_ops.recalls.recall import Recall
 from tracedesk_ops.recalls.tables import Table
 
-FILE_NAME, KIND = "certificate.json", "recall 1"
+FILE_NAME, KIND = "certificate.json", "recall 2"
 LISTED = "asked-reels.txt"  # the list of `tracedesk-chain reels`
 LIMITS = (
     "a piece whose placement nobody reported",

@@ -9,6 +9,8 @@ import base64
 import binascii
 import pathlib
 import subprocess
+import tempfile
+from typing import NamedTuple
 
 SUMS, SIGNATURE = "SHA256SUMS", "SHA256SUMS.sig"
 NAMESPACE = "tracedesk-recall"
@@ -43,8 +45,7 @@ def fingerprint(key: pathlib.Path) -> str:
         return keygen("-l", "-E", "sha256", "-f", key).split()[1]
     except NoSignature as fault:
         raise NoSignature(
-            f"{key} can't be used as a key: {fault}. Call it as a user who may read the key, or"
-            " with --unsigned"
+            f"{key} can't be used as a key: {fault}. Call it as a user who may read the key"
         ) from fault
 
 
@@ -69,23 +70,26 @@ def want_canonical(text: str) -> None:
         raise NoSignature(f"{SIGNATURE} is not as ssh-keygen writes it")
 
 
-def signer(folder: pathlib.Path, sums: bytes, signers: pathlib.Path) -> str:
+class Signer(NamedTuple):
+    """Who signed: the name in the file of allowed signers, and the fingerprint of the key."""
+
+    name: str
+    key: str
+
+
+def signer(sums: bytes, signature: bytes, signers: pathlib.Path) -> Signer:
     """Who of a file of allowed signers signed these checksums; a NoSignature if nobody did."""
-    signature = folder / SIGNATURE
-    try:
-        want_canonical(signature.read_bytes().decode("ascii"))
-        with open(signers, "rb"):
-            pass
-    except (OSError, UnicodeDecodeError) as fault:
-        raise NoSignature(str(fault)) from fault
-    words = ("-s", signature, "-f", signers)
-    try:
-        found = keygen("-Y", "find-principals", *words).splitlines()
-    except NoSignature as fault:
-        raise NoSignature(
-            f"its key is that of nobody in {signers}: ask the plant for its key by another way than"
-            " with the evidence"
-        ) from fault
-    named = ("-I", found[0], "-n", NAMESPACE)
-    keygen("-Y", "verify", *words, *named, given=sums)
-    return found[0]
+    want_canonical(signature.decode("ascii", "replace"))
+    with tempfile.NamedTemporaryFile() as copy:
+        copy.write(signature)
+        copy.flush()
+        words = ("-s", copy.name, "-f", signers)
+        try:
+            name = keygen("-Y", "find-principals", *words).splitlines()[0]
+        except NoSignature as fault:
+            raise NoSignature(
+                f"its key is that of nobody in {signers}: ask the plant for its key by another way"
+                " than with the evidence"
+            ) from fault
+        said = keygen("-Y", "verify", *words, "-I", name, "-n", NAMESPACE, given=sums)
+    return Signer(name, said.split()[-1])

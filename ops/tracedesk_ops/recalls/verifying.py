@@ -1,23 +1,27 @@
 """Whether evidence of a recall is what its signer gave, and whether its answer comes again from the
 archives.
+
+The signature is looked at first. Then the files that it names are read, each of them once, and no
+others.
 """
 from __future__ import annotations
 
 import hashlib
 import json
 import pathlib
-import re
 from collections.abc import Iterator, Sequence
 from typing import Any
 
 from tracedesk_ops import catalogue, chains, files, model, plant
 from tracedesk_ops.recalls import certificate, signing
 from tracedesk_ops.recalls.certificate import LISTED, bytes_of
-from tracedesk_ops.recalls.evidence import Contents, sums_of
+from tracedesk_ops.recalls.evidence import Contents
+from tracedesk_ops.recalls.signing import SIGNATURE, SUMS
 
 RUNNING = catalogue.RUNNING
 
-ROW = re.compile(rb"([0-9a-f]{64})  ([^/\n]+)")
+MOST_SIGNED = 1 << 20  # bytes of the checksums, and of the signature
+MOST = 1 << 30  # bytes of another file
 TABLES = ("boards", "pieces", "reels", "asked", "untraced", "doubtful", "serials")
 TRACE = ("board", "designator", "part", "lot", "reel", "machine", "slot", "overdue")
 
@@ -26,52 +30,52 @@ class Refused(Exception):
     """Why the evidence is not as its signer gave it, or its answer doesn't come again."""
 
 
-def contents_of(folder: pathlib.Path) -> Contents:
-    """The files of the evidence, whose checksums are right, and which are all that is there."""
+def read(folder: pathlib.Path, name: str, most: int) -> bytes:
+    """A file of the evidence, which may be as long as this."""
     try:
-        there = {path.name: path for path in folder.iterdir()}
-        if odd := [path for path in there.values() if path.is_symlink() or not path.is_file()]:
-            raise Refused(f"{odd[0]} is no file: evidence has files alone")
-        return checked({name: path.read_bytes() for name, path in there.items()}, folder)
-    except OSError as fault:
-        raise Refused(f"{fault.filename}: it can't be read: {fault.strerror}") from fault
+        text = files.read_plain(folder / name, most + 1)
+    except FileNotFoundError as fault:
+        raise Refused(f"{name} is missing") from fault
+    except (OSError, ValueError) as fault:
+        raise Refused(f"{name} can't be read: {fault}") from fault
+    if len(text) > most:
+        raise Refused(f"{name} is longer than evidence is")
+    return text
 
 
-def checked(texts: Contents, of: object) -> Contents:
-    """The same of all files of this evidence, by their names."""
-    if signing.SUMS not in texts:
-        raise Refused(f"{of} has no {signing.SUMS}: it is no evidence of a recall")
-    sums = texts.pop(signing.SUMS)
-    texts.pop(signing.SIGNATURE, None)
-    named = {
-        row[2].decode(errors="backslashreplace"): row[1].decode()
-        for row in map(ROW.fullmatch, sums.split(b"\n"))
-        if row
-    }
-    if missing := sorted(named.keys() - texts.keys()):
-        raise Refused(f"{missing[0]} is missing")
-    if more := sorted(texts.keys() - named.keys()):
-        raise Refused(f"{more[0]} is not in {signing.SUMS}: it is none of the evidence")
-    for name, content in sorted(texts.items()):
+def signed(folder: pathlib.Path, signers: pathlib.Path) -> tuple[signing.Signer, Contents]:
+    """Who signed the evidence, and the files that the signature names, which are all that is there."""
+    sums, signature = (read(folder, name, MOST_SIGNED) for name in (SUMS, SIGNATURE))
+    try:
+        who = signing.signer(sums, signature, signers)
+    except signing.NoSignature as fault:
+        raise Refused(f"the signature doesn't hold: {fault}") from fault
+    rows = (row.partition("  ") for row in sums.decode(errors="replace").splitlines())
+    named = {name: sha256 for sha256, _, name in rows}
+    if more := {path.name for path in folder.iterdir()} - {*named, SUMS, SIGNATURE}:
+        raise Refused(f"{min(more)} is not in {SUMS}: it is none of the evidence")
+    contents = {name: read(folder, name, MOST) for name in named}
+    for name, content in contents.items():
         if hashlib.sha256(content).hexdigest() != named[name]:
-            raise Refused(f"{name} was changed: its checksum is not that of {signing.SUMS}")
-    if sums != sums_of(texts):
-        raise Refused(f"{signing.SUMS} is not as it was written")
-    return texts
+            raise Refused(f"{name} was changed: its checksum is not that of {SUMS}")
+    return who, contents
 
 
-def told_in(contents: Contents) -> dict[str, Any]:
-    """What the certificate says, once the tables have as many rows as it names."""
+def told_in(contents: Contents, who: signing.Signer) -> dict[str, Any]:
+    """What the certificate says, once it is of this signer, and the tables are those that it says."""
     try:
-        told = json.loads(contents[certificate.FILE_NAME])
+        told = dict(json.loads(contents[certificate.FILE_NAME]))
         if told["certificate"] != certificate.KIND:
             raise Refused(f"{certificate.FILE_NAME} is of another version of tracedesk-recall")
+        if told["signed_by"] != who.key:
+            raise Refused(f"its certificate says that it is signed by {told['signed_by']}")
         for name in TABLES:
             if f"{name}.csv" in contents and len(rows_of(contents, name)) != told["answer"][name]:
                 raise Refused(f"{name}.csv has not the rows that {certificate.FILE_NAME} names")
+        want_pieces(contents, told)
     except (KeyError, ValueError, TypeError, RecursionError) as fault:
         raise Refused(f"{certificate.FILE_NAME} is missing or can't be read: {fault!r}") from fault
-    return dict(told)
+    return told
 
 
 def rows_of(contents: Contents, name: str) -> list[dict[str, str]]:
@@ -82,23 +86,14 @@ def want_pieces(contents: Contents, told: dict[str, Any]) -> None:
     """Stops if the pieces of archives aren't those of tracedesk-chain, or the boards not those of
     the pieces.
     """
+    answers = {
+        line["line"]: catalogue.csv_table(contents[line["chain"]["file"]].decode())
+        for line in told["lines"]
+        if line["chain"] and line["chain"]["file"] in contents
+    }
+    wanted = [(line, *traced(row)) for line, rows in answers.items() for row in rows]
     pieces = rows_of(contents, "pieces")
-    # in evidence of 1.0.0 the running desk told its pieces itself
-    apart = {line["line"] for line in told["lines"] if line.get("running_desk")}
-    wanted: list[list[str]] = []
-    proved = set()
-    for line in told["lines"]:
-        if line["chain"] and line["chain"]["file"] in contents:
-            proved.add(line["line"])
-            answer = catalogue.csv_table(contents[line["chain"]["file"]].decode())
-            wanted += [
-                [line["line"], row["file"], *(row[name] for name in TRACE)] for row in answer
-            ]
-    got = [
-        [row["line"], row["file"], *(row[name] for name in TRACE)]
-        for row in pieces
-        if row["line"] in proved and not (row["line"] in apart and row["file"] == RUNNING)
-    ]
+    got = [(row["line"], *traced(row)) for row in pieces if row["line"] in answers]
     if sorted(got) != sorted(wanted):
         raise Refused("pieces.csv has not the pieces that tracedesk-chain answered")
     boards = {row["board"] for row in pieces}
@@ -108,9 +103,24 @@ def want_pieces(contents: Contents, told: dict[str, Any]) -> None:
         raise Refused("serials.csv has not the boards of pieces.csv")
 
 
+def traced(row: dict[str, str]) -> tuple[str, ...]:
+    return row["file"], *(row[name] for name in TRACE)
+
+
 def holding(contents: Contents) -> set[str]:
     """The serials of a customer that hold a piece."""
     return {row["board"] for row in rows_of(contents, "serials") if row["holds"] == "yes"}
+
+
+def said(told: dict[str, Any]) -> str:
+    """What was asked, when and of which lines, and whether the answer is complete."""
+    its = {"part": "", "within": "", **told["question"]}
+    question = f"{its['kind']} {its['name']}" if its["kind"] != "reels" else its["name"]
+    question += "".join(f" {name} {its[name]}" for name in ("part", "within") if its[name])
+    lines = ", ".join(line["line"] for line in told["lines"])
+    whole = "complete" if told["answer"]["is_complete"] else "NOT COMPLETE, as question.txt says"
+    own = f" {told['customer']}" if "customer" in told else ""
+    return f"{question}, asked at {told['asked_at']} of the lines {lines}: {whole}.{own}"
 
 
 def again(
@@ -126,32 +136,24 @@ def again(
     chain = plant.chain_of(program)
     if not chain:
         raise chains.NoAnswer("there is no tracedesk-chain next to tracedesk: CHAIN names it")
+    (room / LISTED).write_bytes(contents.get(LISTED, b""))
     for line in told["lines"]:
         archives = [its for its in line["archives"] if its["file"] != RUNNING]
         if not archives:
             continue
-        files = [file_of(folders, its["file"], its["sha256"]) for its in archives]
+        paths = [file_of(folders, its["file"], its["sha256"]) for its in archives]
         if not line["chain"]:
             raise Refused(f"{line['line']}: its archives were not asked by tracedesk-chain")
-        words = [word_of(word, contents, room) for word in line["chain"]["words"]]
+        words = [str(room / it) if it == LISTED else it for it in line["chain"]["words"]]
         digits = [its["sha256"][: model.DIGITS] for its in archives]
-        answer = chains.asked(chain, words, files, digits)
-        sha256 = hashlib.sha256(bytes_of(answer.text)).hexdigest()
-        if sha256 != line["chain"]["sha256"]:
+        answer = chains.asked(chain, words, paths, digits)
+        if hashlib.sha256(bytes_of(answer.text)).hexdigest() != line["chain"]["sha256"]:
             raise Refused(f"{line['line']}: tracedesk-chain answers otherwise about these archives")
         if "serials.csv" in contents:
             serials = {row["board"] for row in rows_of(contents, "serials")}
             if not {row["board"] for row in answer.rows} & serials <= holding(contents):
                 raise Refused(f"{line['line']}: serials.csv lacks a board with a piece")
-        yield f"{line['line']}: the answer comes again from its {len(files)} archives"
-
-
-def word_of(word: str, contents: Contents, room: pathlib.Path) -> str:
-    """A word of tracedesk-chain; the list of reels is written where it can be read."""
-    if word != LISTED:
-        return word
-    (room / LISTED).write_bytes(contents[LISTED])
-    return str(room / LISTED)
+        yield f"{line['line']}: the answer comes again from its {len(paths)} archives"
 
 
 def file_of(folders: Sequence[pathlib.Path], name: str, sha256: str) -> pathlib.Path:

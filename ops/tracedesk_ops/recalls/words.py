@@ -43,7 +43,6 @@ def parse(text: str | None) -> argparse.Namespace:
         ("key", "FILE"),
     ):
         parser.add_argument(f"--{option}", type=pathlib.Path, metavar=metavar)
-    parser.add_argument("--unsigned", action="store_true")
     parser.add_argument("--customer", metavar="NAME")
     parser.add_argument(
         "--program",
@@ -71,8 +70,6 @@ def want_sense(words: argparse.Namespace) -> None:
             stop(str(fault))
     if words.customer and not (words.shipped and words.evidence):
         stop("--customer wants --shipped and --evidence")
-    if words.key and words.unsigned:
-        stop("--key signs the evidence, and --unsigned doesn't: say one of them")
     if words.evidence and os.path.lexists(words.evidence):
         stop(f"{words.evidence}: it is there already, and nothing is overwritten", 4)
     if words.evidence and not os.path.isdir(words.evidence.absolute().parent):
@@ -164,7 +161,7 @@ def shipped_of(path: pathlib.Path) -> Shipped:
 
 def key_of(words: argparse.Namespace) -> pathlib.Path | None:
     """The key that signs the evidence; none if no set-up file names one."""
-    if words.unsigned or not words.evidence:
+    if not words.evidence:
         return None
     if words.key:
         return pathlib.Path(words.key)
