@@ -16,7 +16,8 @@ from collections.abc import Callable, Iterator
 from typing import NamedTuple
 
 from tracedesk import records
-from tracedesk_ops import catalogue, files, heads, model, untraced
+from tracedesk_ops import catalogue, files, heads, model, splices, untraced
+from tracedesk_ops.firstlook import Question
 from tracedesk_ops.line import LineFolder
 from tracedesk_ops.tapes import LOADED, DoubtfulPiece, Refusal, Tapes, Work
 
@@ -41,8 +42,12 @@ class Doubts(NamedTuple):
     tapes: Tapes
 
 
-def look(folder: pathlib.Path, archives: list[catalogue.Archive]) -> Doubts:
-    """Looks at what is around a line's files, which are in the order of their chain."""
+def look(
+    folder: pathlib.Path, archives: list[catalogue.Archive], question: Question | None = None
+) -> Doubts:
+    """Looks at what is around a line's files, which are in the order of their chain; at splices if
+    a question has a tolerance.
+    """
     archive = LineFolder(folder).sealed
     book = untraced.read(archive)
     decided = untraced.decisions(book.records)
@@ -60,6 +65,8 @@ def look(folder: pathlib.Path, archives: list[catalogue.Archive]) -> Doubts:
         recorded |= tell(tapes, files)
         tapes.judge(refusals_of(book.records, decided), map(work_of, works))
         pieces = [*placed(tapes, files), *told(tapes, works, differing, decided)]
+        if question and question.within:
+            pieces += splices.near(tapes, files, tapes.asked(question), question.within)
     except (catalogue.CatalogueError, OSError, sqlite3.Error) as fault:
         faults.append(f"{folder}: whether pieces may be of other reels isn't known: {fault}")
     faults += untraced.missing(archive, recorded)

@@ -28,13 +28,14 @@ class Line(NamedTuple):
 
 class Question(NamedTuple):
     """What is asked: `kind` is lot, board, reel, or reels, a set of them whose `name` is a title. A
-    lot may be asked for its pieces of one part.
+    lot may be asked for its pieces of one part. `within` is how many pieces a label may be wrong by.
     """
 
     kind: str
     name: str
     part: str = ""
     reels: tuple[str, ...] = ()
+    within: int = 0
 
     def names(self) -> tuple[str, ...]:
         """The names that are asked for; of a set of reels perhaps none."""
@@ -43,7 +44,8 @@ class Question(NamedTuple):
     def about(self) -> dict[str, str]:
         """The question as a certificate has it."""
         part = {"part": self.part} if self.part else {}
-        return {"kind": self.kind, "name": self.name, **part}
+        within = {"within": f"{self.within} pieces of a splice"} if self.within else {}
+        return {"kind": self.kind, "name": self.name, **part, **within}
 
     def words(self, listed: pathlib.Path) -> list[str]:
         """The words of tracedesk-chain; a set of reels is in this file."""

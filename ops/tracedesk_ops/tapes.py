@@ -50,6 +50,7 @@ ANY = ""  # in the place of a part: that of a reel which the line doesn't know
 
 Turn = tuple[int, int]  # the place of a file in its line's chain, and the number of a command
 Slot = tuple[str, str]  # of a machine
+Where = tuple[str, str, str, str, int]  # board, designator, machine, slot and minute of a piece
 Told = tuple[Turn, int, int]  # its turn, its own minute and the one that counts
 
 
@@ -256,16 +257,28 @@ class Tapes:
 
     def pieces(self, place: int, database: sqlite3.Connection) -> Iterator[DoubtfulPiece]:
         """Those in doubt that a file has placed."""
-        its = [it for it in self.doubtful() if it.first[0] <= place <= it.last[0]]
+        its = [*self.doubtful()]
+        for at, where, reel in self.placed(place, database, [(it, it.since) for it in its]):
+            why = "; ".join(its[at].whys)
+            yield self.piece(where, reel, its[at].reels, why, self.names[place])
+
+    @staticmethod
+    def placed(
+        place: int, database: sqlite3.Connection, those: Sequence[tuple[Tape, int]]
+    ) -> Iterator[tuple[int, Where, str]]:
+        """The pieces of these tapes in a file, each from a minute on: the place of its tape among
+        them, where it was placed, and the reel.
+        """
         rows = [
             (
                 at,
                 *it.on,
                 it.first[1] if it.first[0] == place else 0,
                 it.last[1] if it.last[0] == place else FOREVER,
-                it.since,
+                since,
             )
-            for at, it in enumerate(its)
+            for at, (it, since) in enumerate(those)
+            if it.first[0] <= place <= it.last[0]
         ]
         if not rows:
             return
@@ -274,14 +287,11 @@ class Tapes:
         database.executemany("INSERT INTO temp.doubt VALUES (?, ?, ?, ?, ?, ?)", rows)
         database.execute("CREATE INDEX temp.doubt_on ON doubt (machine, slot, low)")
         for at, board, designator, minute, reel in database.execute(PIECES):
-            tape = its[at]
-            machine, slot = tape.on
-            where = board, designator, machine, slot, minute
-            yield self.piece(where, reel, tape.reels, "; ".join(tape.whys), self.names[place])
+            yield at, (board, designator, *those[at][0].on, minute), reel
 
     def piece(
         self,
-        where: tuple[str, str, str, str, int],
+        where: Where,
         reel: str,
         reels: Iterable[str],
         why: str,
@@ -299,6 +309,13 @@ class Tapes:
     def lot(self, reel: str) -> str:
         return self.cards[reel][1] if reel in self.cards else ""
 
+    def asked(self, question: Question) -> set[str]:
+        """The reels that are asked for; all if a board is."""
+        if question.kind == "board":
+            return {*self.cards}
+        named = {*question.names()} if question.kind != "lot" else set()
+        return named | {reel for reel, card in self.cards.items() if question.is_of(reel, *card)}
+
     def concerning(
         self, question: Question, pieces: Iterable[DoubtfulPiece]
     ) -> list[DoubtfulPiece]:
@@ -307,9 +324,7 @@ class Tapes:
         """
         if question.kind == "board":
             return [it for it in pieces if it.board in (question.name, "")]
-        asked = {reel for reel, card in self.cards.items() if question.is_of(reel, *card)}
-        if question.kind != "lot":
-            asked |= {*question.names()}
+        asked = self.asked(question)
         parts = {ANY, *map(self.part, asked)}
         return [it for it in pieces if parts & it.parts or asked & {it.reel, *it.other_reels}]
 

@@ -5,7 +5,7 @@ usage: tracedesk-recall lot NAME.. [--part PART] [OPTION]..
        tracedesk-recall reel NAME.. [OPTION]..
        tracedesk-recall where ATTRIBUTE=VALUE.. [OPTION]..
 options:                [--line LINE FOLDER].. [--lines FILE]
-                        [--show TABLE] [--shipped FILE] [--customer NAME]
+                        [--within PIECES] [--show TABLE] [--shipped FILE] [--customer NAME]
                         [--evidence FOLDER [--key FILE]]
 
 examples:
@@ -34,6 +34,8 @@ is 3.
                 its newest sealed file stands for the desk, and the answer is not complete
 --lines FILE    the same of several lines: a CSV file of the header line,folder; paths are from its
                 folder on
+--within PIECES  a label may be wrong by so many pieces: those so near a splice that they may be of
+                the neighbour are doubtful, from the second splice of a tape on the more
 --show TABLE    the table to print as CSV; without it pieces of a board, and boards of a lot or reel
   boards        of each board its pieces, the first and last minute, the lines, overdue, and the
                 files they lie in
@@ -101,6 +103,7 @@ def asked(asks: argparse.Namespace, lines: list[Line], room: pathlib.Path) -> Re
         for text in (*(f"NOT ASKED: {why}" for why in its.faults), *its.notes):
             plant.tell(text)
         words.stop(f"no reel is one of {its.question.name}", 3 if its.faults else 1)
+    its = its._replace(question=its.question._replace(within=asks.within))
     chain = chains.Asker(asks.program, its.question.words(listed_in(room, its.question)))
     recall = Recall(its.question, lines, chain, room)
     recall.faults += its.faults

@@ -235,7 +235,7 @@ class Recall:
         the pieces of the question that may be of another reel.
         """
         name = line.name
-        its = doubts.look(line.folder, self.files[name])
+        its = doubts.look(line.folder, self.files[name], self.question)
         self.faults += its.faults
         for it, by, reels in its.works:
             said = untraced.said(it)[2:9]

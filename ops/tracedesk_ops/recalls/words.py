@@ -32,6 +32,7 @@ def parse(text: str | None) -> argparse.Namespace:
         "names", nargs="+", type=options.identifier, help="its names, or attributes"
     )
     parser.add_argument("--part", type=options.identifier, help="of lots, this part alone")
+    parser.add_argument("--within", type=pieces, default=0, metavar="PIECES")
     parser.add_argument("--line", nargs=2, action="append", default=[], metavar=("LINE", "FOLDER"))
     parser.add_argument(
         "--show", choices=("boards", "pieces", "reels", "asked", "untraced", "doubtful")
@@ -55,6 +56,13 @@ def parse(text: str | None) -> argparse.Namespace:
     words = parser.parse_args()
     want_sense(words)
     return words
+
+
+def pieces(text: str) -> int:
+    """A number of pieces."""
+    if not text.isascii() or not text.isdecimal() or not 1 <= int(text[:9]) <= 1_000_000:
+        raise argparse.ArgumentTypeError(f"{text} is no number from 1 to 1,000,000")
+    return int(text)
 
 
 def want_sense(words: argparse.Namespace) -> None:
