@@ -83,6 +83,23 @@ def test_a_reel_that_the_desk_does_not_know_is_said_so(plant: Plant) -> None:
     )
 
 
+def test_reels_that_cannot_be_compared_put_the_board_in_doubt(plant: Plant) -> None:
+    """The machine took one reel, and names two: a recall of the part names the board, until it is
+    scrapped.
+    """
+    build(plant, "R-1", "R-2")
+    for lot in ("L-R-1", "L-R-3"):
+        (row,) = table(plant.recall(lot, 5, "doubtful"))
+        assert (row["board"], row["reel"], row["other_reels"]) == ("B1", "R-1", "")
+        assert row["why"].startswith("the machine's reels can't be compared with the desk's (")
+    plant.recall("L-R-4", 0, "doubtful")  # of another part
+    plant.untraced("collect").expect()
+    (record,) = untraced.undecided(untraced.read(plant.line.archive).records)
+    assert untraced.said(record)[6] == "Uncompared"
+    plant.decide(record.id[:12], "scrapped")
+    plant.recall("L-R-1", 0, "doubtful")
+
+
 @pytest.mark.parametrize("reels", [("R-1",), (None,)])
 def test_where_they_agree_or_none_is_named_nothing_is_in_doubt(
     plant: Plant, reels: "tuple[str | None, ...]"

@@ -25,6 +25,7 @@ Opener = Callable[[], contextlib.AbstractContextManager[sqlite3.Connection]]
 Decisions = dict[str, untraced.Record]  # the newest one of each record, by its id
 DIFFERS = "the machine names another reel"
 UNKNOWN = f"{DIFFERS}, which the desk doesn't know"
+UNCOMPARED = "the machine's reels can't be compared with the desk's"
 KEPT = "worked though the desk refused it, and not scrapped"
 TAKEN_OFF = "taken off"  # what became of a refused reel from which nothing was placed
 # why a load is refused whose slot is empty
@@ -114,12 +115,13 @@ def told(
 
 
 def contradicted(tapes: Tapes, record: untraced.Record) -> Iterator[DoubtfulPiece]:
-    """The pieces of which a machine names another reel than the desk. They are of one of the two,
-    if the desk knows both.
+    """The pieces of which a machine names another reel than the desk, or none that can be compared.
+    They are of one of the two, if the desk knows both.
     """
     its, minute = record.told, minute_of(record.told["At"]) or 0
     is_known = its["MachineReel"] in tapes.cards
-    why = f"{DIFFERS if is_known else UNKNOWN} ({record.id[:8]})"
+    why = DIFFERS if is_known else UNKNOWN if its["MachineReel"] else UNCOMPARED
+    why = f"{why} ({record.id[:8]})"
     for name in map(str, its["Designators"]):
         where = its["Board"], name, its["Machine"], "", minute
         piece = tapes.piece(where, its["DeskReel"], [its["MachineReel"]], why)

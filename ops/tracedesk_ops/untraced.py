@@ -113,7 +113,8 @@ def columns(record: Record) -> list[str]:
     told = record.told
     if told["Kind"] == "differs":
         what = f"{' '.join(map(str, told['Designators']))} by the desk of reel {told['DeskReel']}"
-        its = [told["At"], told["Machine"], told["Board"], what, "Differs", told["MachineReel"]]
+        why = "Differs" if told["MachineReel"] else "Uncompared"
+        its = [told["At"], told["Machine"], told["Board"], what, why, told["MachineReel"]]
         return [record.id, "differs", *its, "", told["By"], "", "", ""]
     if told["Kind"] == "decided":
         by = [told[name] for name in ("By", "Of", "Became", "Reason")]

@@ -50,7 +50,7 @@ def installed(line: Line, reels: Any, *names: str) -> str:
     with mock.patch.object(line.desk, "hasty", side_effect=OSError):
         found = its.compare(told, answer)
         line.states.judged(spool.spelled(line.names), told, answer)
-        for _, _, shown in found:
+        for shown in (it for _, _, it in found if it):
             line.states.differ("M1", witness.looked_up(line.desk, shown))
         return line.states.state("M1").word
 
@@ -63,7 +63,24 @@ def test_a_difference_is_of_its_slot_also_where_nobody_could_say_it(line: Line) 
     assert line.say("MaterialsSpliced", Slot="1", Reel="1-K2") == "go"
 
 
-@pytest.mark.parametrize("reels", (["1-K1"], ["1-K1"] * 3, ["1-K1", 5], "1-K1", {}, 0))
+ODD = (["1-K1"], ["1-K1"] * 3, ["1-K1", 5], "1-K1", {}, 0)
+
+
+@pytest.mark.parametrize("reels", ODD)
+def test_each_reel_that_cannot_be_compared_has_a_record(reels: Any) -> None:
+    body = {"Machine": "M1", "Board": "B1", "Designators": ["1a", "2a"], "MachineReels": reels}
+    told = {"MessageName": "TraceDesk.MaterialsInstalled", "UniqueID": "u", "MessageBody": body}
+    made = witness.made(told, answers.Accepted(7, "u", reels=("1-K1", "2-K1")), "sender")
+    records = [json.loads(text) for _, text, _ in made]
+    names = ("Kind", "DeskReel", "MachineReel", "Designators")
+    assert [[it[name] for name in names] for it in records] == [
+        ["differs", "1-K1", "", ["1a"]],
+        ["differs", "2-K1", "", ["2a"]],
+    ]
+    assert [shown for _, _, shown in made] == [{}, {}]
+
+
+@pytest.mark.parametrize("reels", ODD)
 def test_reels_that_cannot_be_compared_stop_until_the_next_start(line: Line, reels: Any) -> None:
     line.start()
     assert installed(line, reels, "1a", "1b") == "stop"

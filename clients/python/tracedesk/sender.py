@@ -96,7 +96,7 @@ class Sender:
                     # a later start may wait by now
                     self.interlock.look_ahead(patiently(self.spool.names, self.tell))
                 self.interlock.judged(name, told, answer)
-                for _, _, shown in differs:
+                for shown in (it for _, _, it in differs if it):
                     self.interlock.differ(machine_of(told), witness.looked_up(self.desk, shown))
             elif is_report:
                 self.interlock.refused(machine_of(told), self.spool.kept(name).refusal)
@@ -133,7 +133,7 @@ class Sender:
             self.tell(f"{machine_of(told)}: {fault}")
             self.interlock.unread(machine_of(told), told, fault)
         found = witness.made(told, answer, f"tracedesk-send {self.spool.name}")
-        for _, _, shown in found:
+        for shown in (it for _, _, it in found if it):
             self.interlock.differ(machine_of(told), shown)
             self.tell(
                 f"board {shown['Board']}: the machine took reel {shown['Machine']} for "

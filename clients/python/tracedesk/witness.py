@@ -3,7 +3,7 @@ where it names the reel that it took.
 
 An install may have the member `MachineReels` beside `Designators`: the reel of each, or null. The
 desk skips it. The sender compares it with the reels in the desk's answer, and keeps a record of
-each two that differ.
+each two that differ. Where they can't be compared, it keeps a record of each reel of the desk.
 """
 from __future__ import annotations
 
@@ -40,15 +40,27 @@ def fault_of(told: Dict[str, Any]) -> str:
     return f"{MEMBER} is no list with a reel, or null, for each designator: nothing was compared"
 
 
+def uncompared(told: Dict[str, Any], answer: answers.Answer) -> Dict[Tuple[str, str], List[str]]:
+    """The designators of each of the desk's reels, if those of the machine can't be compared with
+    them. In the place of the machine's reel is none.
+    """
+    found: Dict[Tuple[str, str], List[str]] = {}
+    if isinstance(answer, answers.Accepted) and fault_of(told):
+        for name, desk in zip(answers.body_of(told)["Designators"], answer.reels):
+            found.setdefault((desk, ""), []).append(str(name))
+    return found
+
+
 def made(
     told: Dict[str, Any], answer: answers.Answer, by: str
 ) -> List[Tuple[str, bytes, Dict[str, Any]]]:
-    """The records of what differs, each with its id and what a status says of it. A message gives
-    the same ones each time.
+    """The records of what differs, or can't be compared, each with its id and what a status says of
+    it: of the latter nothing. A message gives the same ones each time.
     """
     body, found = answers.body_of(told), []
     at = records.in_utc(told.get("TimeStamp")) or records.utc()
-    for (desk, machine), names in differences(told, answer).items():
+    those = differences(told, answer) or uncompared(told, answer)
+    for (desk, machine), names in those.items():
         id_, text = records.record(
             "differs",
             by,
@@ -62,7 +74,7 @@ def made(
         )
         shown: Dict[str, Any] = {"Id": id_, "At": at, "Board": str(body.get("Board"))}
         shown.update(Designators=names, Slot=None, Desk=desk, Machine=machine, Known=None)
-        found.append((id_, text, shown))
+        found.append((id_, text, shown if machine else {}))
     return found
 
 
