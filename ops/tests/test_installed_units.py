@@ -27,6 +27,14 @@ chown root:www-data recallers; chmod 640 recallers
 systemctl enable --now tracedesk-recall-page tracedesk-recall-work
 systemctl reload nginx
 """
+SIGNED = """
+cd /etc/tracedesk
+test -e recall-key || ssh-keygen -q -t ed25519 -N '' -C plant -f recall-key
+systemctl enable --now tracedesk-recall-sign.socket
+for it in $(ls *.conf); do
+  grep -q '^key' "$it" || echo 'key = /run/tracedesk-recall-sign' >> "$it"
+done
+"""
 ASK = f"curl -sS -o /tmp/body -w '%{{http_code}} %{{redirect_url}}' {ANNA}"
 LINE, FOLDER = "L2", "/var/lib/tracedesk/L2"  # a line that is a folder
 PAPERS = {
@@ -168,6 +176,21 @@ def test_tracedesk_recall_work(page: Machine, journal: Callable[[str], None]) ->
     recalled(page, "L-77")
     assert '"status": 2' in page.shell(f"cat {folder}/ended.json")
     journal("tracedesk-recall-work")
+
+
+def test_tracedesk_recall_sign_of(page: Machine, journal: Callable[[str], None]) -> None:
+    """The worker has evidence signed by a key that none of the users can read."""
+    page.shell(SIGNED)
+    name = recalled(page, "L-77").rstrip("/").rpartition("/")[2]
+    sums = f"/var/lib/tracedesk-recall/{name}/evidence/SHA256SUMS"
+    check = f"ssh-keygen -Y check-novalidate -n tracedesk-recall -s {sums}.sig < {sums}"
+    key = page.shell("ssh-keygen -l -f /etc/tracedesk/recall-key.pub").split()[1]
+    assert key in page.shell(check)
+    for user in ("tracedesk", "tracedesk-recall", "tracedesk-sign", "www-data"):
+        page.shell(f"! runuser -u {user} -- cat /etc/tracedesk/recall-key 2> /dev/null")
+    for user in ("tracedesk-recall", "www-data"):
+        page.shell(f"! runuser -u {user} -- test -w /run/tracedesk-recall-sign")
+    journal("tracedesk-recall-sign@*")
 
 
 def test_tracedesk_untraced(machine: Machine, journal: Callable[[str], None]) -> None:

@@ -11,7 +11,13 @@ PROMETHEUS = ROOT / "packaging/prometheus"
 RULES, TESTS = (PROMETHEUS / f"tracedesk-alerts{its}.yml" for its in ("", "-test"))
 METRIC = re.compile(r"\btracedesk_\w+")
 MOST_EXPOSED = 2.0  # of a unit, by systemd-analyze
-NARROW = ("tracedesk-watch", "tracedesk-clock@", "tracedesk-untraced", "tracedesk-send@")
+NARROW = (
+    "tracedesk-recall-sign@",
+    "tracedesk-watch",
+    "tracedesk-clock@",
+    "tracedesk-untraced",
+    "tracedesk-send@",
+)
 
 
 def alerts() -> set[str]:
@@ -60,14 +66,14 @@ def units(tmp_path_factory: pytest.TempPathFactory) -> list[pathlib.Path]:
     at = tmp_path_factory.mktemp("units")
     (at / "bin").mkdir()
     made = []
-    for unit in sorted((ROOT / "packaging").glob("tracedesk*.[st][ei][rm]*")):
+    for unit in sorted((ROOT / "packaging").glob("tracedesk*.[st][eio][rmc]*")):
         text = unit.read_text()
         for name in re.findall(r"/usr/bin/(\S+)", text):
             (at / "bin" / name).write_text("#!/bin/sh\n")
             (at / "bin" / name).chmod(0o755)
         made.append(at / unit.name)
         made[-1].write_text(text.replace("/usr/bin/", f"{at}/bin/"))
-    return [unit for unit in made if unit.suffix in (".service", ".timer")]
+    return [unit for unit in made if unit.suffix in (".service", ".timer", ".socket")]
 
 
 @pytest.mark.needs("systemd-analyze")

@@ -9,10 +9,13 @@ import json
 import pathlib
 import random
 import shutil
+import socketserver
 import subprocess
+import threading
 from typing import Any, Iterator
 
 import pytest
+from lab import ROOT
 from lab.line import table
 from lab.recalls import key_in, lot_of, recall, signers_of
 from lab.tools import Ended, Word, run, run_tool
@@ -145,6 +148,37 @@ def test_a_set_up_file_names_the_key(plant: Plant, folder: pathlib.Path) -> None
     words: list[Word] = ["lot", plant.lot, *plant.world.words(), "--evidence", folder / "evidence"]
     run_tool("recall", *words, env={"TRACEDESK_SET_UP": str(folder)}).expect()
     plant.verify(folder / "evidence").expect(0, "verified")
+
+
+@contextlib.contextmanager
+def signing_service(key: pathlib.Path, at: pathlib.Path) -> Iterator[None]:
+    """The service that has the key, as its unit calls it."""
+    unit = (ROOT / "packaging/tracedesk-recall-sign@.service").read_text()
+    (call,) = (line for line in unit.splitlines() if line.startswith("ExecStart="))
+    words = call.partition("=")[2].replace("%d/key", str(key)).split()
+
+    class Handler(socketserver.BaseRequestHandler):
+        def handle(self) -> None:
+            number = self.request.fileno()
+            subprocess.run(words, stdin=number, stdout=number, stderr=subprocess.DEVNULL)
+
+    with socketserver.ThreadingUnixStreamServer(str(at), Handler) as server:
+        threading.Thread(target=server.serve_forever, daemon=True).start()
+        yield
+        server.shutdown()
+
+
+def test_a_service_that_has_the_key_signs(plant: Plant, folder: pathlib.Path) -> None:
+    """Who asks it can't read the key."""
+    with signing_service(plant.key, folder / "sign"):
+        plant.recall("--key", folder / "sign", "--evidence", folder / "evidence").expect()
+    plant.verify(folder / "evidence").expect(0, "signed by plant", "verified")
+    with signing_service(folder / "no-key", folder / "none"):
+        done = plant.recall("--key", folder / "none", "--evidence", folder / "nothing")
+    done.expect(4, "signs nothing")
+    done = plant.recall("--key", folder / "sign", "--evidence", folder / "nothing")
+    done.expect(4, "can't be asked")
+    assert not (folder / "nothing").exists()
 
 
 # --- What is not

@@ -53,8 +53,9 @@ is 3.
                 piece, and nothing of other boards; a serial that no line knows makes it incomplete
 --evidence FOLDER  all of it as CSV, the program's answers, a certificate, checksums and a
                    signature: tracedesk-verify verifies it
---key FILE      the private key that signs the evidence, as ssh-keygen makes it; without it the
-                `key` of the line's set-up file. If that has none, the evidence is not signed
+--key FILE      the private key that signs the evidence, as ssh-keygen makes it, or the socket of
+                tracedesk-recall-sign; without it the `key` of the line's set-up file. If that has
+                none, the evidence is not signed
 
 FOLDER of --evidence must not be there yet. It gets its name once it is whole.
 

@@ -7,15 +7,20 @@ from __future__ import annotations
 
 import base64
 import binascii
+import contextlib
 import pathlib
+import socket
 import subprocess
 import tempfile
+from collections.abc import Iterator
 from typing import NamedTuple
 
 SUMS, SIGNATURE = "SHA256SUMS", "SHA256SUMS.sig"
 NAMESPACE = "tracedesk-recall"
 BEGIN, END = "-----BEGIN SSH SIGNATURE-----\n", "-----END SSH SIGNATURE-----\n"
 WIDTH = 70  # letters of a line of a signature
+LONGEST = 1 << 16  # bytes of a service's answer
+SECONDS = 60.0  # for which it is waited for
 
 
 class NoSignature(Exception):
@@ -39,8 +44,29 @@ def keygen(*words: str | pathlib.Path, given: bytes = b"") -> str:
     return text
 
 
+def by_socket(sums: bytes, socket_at: pathlib.Path) -> bytes:
+    """The signature that a service gives, which alone has the key."""
+    try:
+        with socket.socket(socket.AF_UNIX) as link:
+            link.settimeout(SECONDS)
+            link.connect(str(socket_at))
+            link.sendall(sums)
+            link.shutdown(socket.SHUT_WR)
+            with link.makefile("rb") as answer:
+                return answer.read(LONGEST)
+    except OSError as fault:
+        raise NoSignature(f"{socket_at} can't be asked: {fault}") from fault
+
+
 def fingerprint(key: pathlib.Path) -> str:
-    """The fingerprint of a private key, or of a public one."""
+    """The fingerprint of a private key, or of that of a service."""
+    if key.is_socket():
+        signature = by_socket(b"", key)
+        if not signature:
+            raise NoSignature(f"{key} signs nothing: its service says why in the journal")
+        with at_hand(signature) as path:
+            check = ("-Y", "check-novalidate", "-n", NAMESPACE, "-s", path)
+            return keygen(*check).split()[-1]
     try:
         return keygen("-l", "-E", "sha256", "-f", key).split()[1]
     except NoSignature as fault:
@@ -51,10 +77,22 @@ def fingerprint(key: pathlib.Path) -> str:
 
 def sign(folder: pathlib.Path, key: pathlib.Path) -> None:
     """Writes the signature next to the checksums of a folder."""
+    if key.is_socket():
+        (folder / SIGNATURE).write_bytes(by_socket((folder / SUMS).read_bytes(), key))
+        return
     try:
         keygen("-Y", "sign", "-f", key, "-n", NAMESPACE, folder / SUMS)
     except NoSignature as fault:
         raise NoSignature(f"{key} doesn't sign: {fault}") from fault
+
+
+@contextlib.contextmanager
+def at_hand(signature: bytes) -> Iterator[str]:
+    """A signature in a file, as ssh-keygen wants it."""
+    with tempfile.NamedTemporaryFile() as copy:
+        copy.write(signature)
+        copy.flush()
+        yield copy.name
 
 
 def want_canonical(text: str) -> None:
@@ -80,10 +118,8 @@ class Signer(NamedTuple):
 def signer(sums: bytes, signature: bytes, signers: pathlib.Path) -> Signer:
     """Who of a file of allowed signers signed these checksums; a NoSignature if nobody did."""
     want_canonical(signature.decode("ascii", "replace"))
-    with tempfile.NamedTemporaryFile() as copy:
-        copy.write(signature)
-        copy.flush()
-        words = ("-s", copy.name, "-f", signers)
+    with at_hand(signature) as path:
+        words = ("-s", path, "-f", signers)
         try:
             name = keygen("-Y", "find-principals", *words).splitlines()[0]
         except NoSignature as fault:
