@@ -17,7 +17,7 @@ from typing import Any, Iterator
 import pytest
 from lab import ROOT
 from lab.line import table
-from lab.recalls import key_in, lot_of, recall, signers_of
+from lab.recalls import key_in, lot_of, places_in, recall, signers_of
 from lab.tools import Ended, Word, run, run_tool
 from lab.world import RUNNING, World
 from tracedesk_ops.cmd import verify
@@ -195,7 +195,9 @@ def status_of(folder: pathlib.Path, signers: pathlib.Path) -> str:
 
 
 def test_each_of_a_thousand_flipped_bits_is_refused(plant: Plant, seed: int) -> None:
-    """Half of them in the checksums and the signature, which are small."""
+    """Half of them in the checksums and the signature, which are small. Of the signature that is
+    its letters: ssh-keygen reads them whatever ends their lines.
+    """
     folder = plant.copy("flipped")
     rng = random.Random(seed)
     files = sorted(file for file in folder.iterdir() if file.stat().st_size)
@@ -204,7 +206,7 @@ def test_each_of_a_thousand_flipped_bits_is_refused(plant: Plant, seed: int) -> 
     for number in range(FLIPS):
         file = rng.choice(small if number % 2 else files)
         text = bytearray(file.read_bytes())
-        place = rng.randrange(len(text))
+        place = rng.choice(places_in(text))
         text[place] ^= 1 << rng.randrange(8)
         with changed(file, bytes(text)):
             assert status_of(folder, plant.signers), f"{file.name}, byte {place}"

@@ -20,6 +20,7 @@ from typing import Iterator
 import pytest
 from lab import ROOT, small
 from lab.line import Line
+from lab.recalls import places_in
 from lab.tools import Word, run
 from tracedesk_ops.recalls import signing
 from tracedesk_ops.recalls.evidence import sums_of
@@ -122,14 +123,6 @@ def rewrite_sums(folder: pathlib.Path) -> None:
     own = (signing.SUMS, signing.SIGNATURE, "plant.signers")
     texts = {file.name: file.read_bytes() for file in folder.iterdir() if file.name not in own}
     (folder / signing.SUMS).write_bytes(sums_of(texts))
-
-
-def places_in(text: bytes) -> list[int]:
-    """The places of the bytes that say something."""
-    if not text.startswith(signing.BEGIN.encode()):
-        return [*range(len(text))]
-    letters = range(len(signing.BEGIN), text.index(signing.END.encode()))
-    return [place for place in letters if text[place] != ord("\n")]
 
 
 @pytest.mark.gate

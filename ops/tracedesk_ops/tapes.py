@@ -287,7 +287,8 @@ class Tapes:
         database.executemany("INSERT INTO temp.doubt VALUES (?, ?, ?, ?, ?, ?)", rows)
         database.execute("CREATE INDEX temp.doubt_on ON doubt (machine, slot, low)")
         for at, board, designator, minute, reel in database.execute(PIECES):
-            yield at, (board, designator, *those[at][0].on, minute), reel
+            machine, slot = those[at][0].on
+            yield at, (board, designator, machine, slot, minute), reel
 
     def piece(
         self,

@@ -45,6 +45,7 @@ THERE = (
     ",nginx-light,openssl,curl,python3"  # docs/operations-install.md
     ",postgresql,python3-psycopg"  # docs/plant.md
     ",python3-flask,python3-waitress,weasyprint,python3-xlsxwriter"  # docs/recall-setup.md
+    ",openssh-client"
     ",jq"  # docs/machines.md
     ",python3-pytest"
 )

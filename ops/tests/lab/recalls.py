@@ -29,6 +29,8 @@ LEFT = """SELECT reel, part, lot, remaining,
     FROM reel LEFT JOIN mount USING (reel) WHERE {} = ? AND remaining > 0"""
 LAST = "SELECT max(effective) FROM accepted"
 
+BEGIN, END = b"-----BEGIN SSH SIGNATURE-----\n", b"-----END SSH SIGNATURE-----\n"
+
 Rows = list[dict[str, str]]
 Tables = dict[str, Rows]
 
@@ -68,6 +70,14 @@ def key_in(folder: pathlib.Path, name: str) -> pathlib.Path:
 
 def signers_of(key: pathlib.Path) -> pathlib.Path:
     return key.with_suffix(".signers")
+
+
+def places_in(text: bytes) -> list[int]:
+    """The places of the bytes that say something; of a signature its letters."""
+    if not text.startswith(BEGIN):
+        return [*range(len(text))]
+    letters = range(len(BEGIN), text.index(END))
+    return [place for place in letters if text[place] != ord("\n")]
 
 
 def files_of(pieces: Rows) -> set[str]:

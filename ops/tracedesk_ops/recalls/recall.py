@@ -25,16 +25,6 @@ from tracedesk_ops.line import LineFolder
 RUNNING = catalogue.RUNNING
 
 
-class About(NamedTuple):
-    """A file that is asked."""
-
-    line: str
-    file: str
-    sha256: str = ""
-    first_minute: str = ""
-    last_minute: str = ""
-
-
 class Asked(NamedTuple):
     """What came of asking a file; `why` is empty if it was asked."""
 
@@ -158,7 +148,8 @@ class Recall:
             try:
                 told[file] = future.result()
             except catalogue.CatalogueError as fault:
-                self.miss(self.about(line, file), fault)
+                self.faults.append(f"{line.name}: {fault}")
+                self.keep_asked(line, file, "no", why=str(fault))
         if proof:
             try:
                 ends = self.proved(line, told, proof.result())
@@ -167,7 +158,9 @@ class Recall:
         if not ends:  # the others are asked all the same, where one is missing
             told = {it: firstlook.at(line, it, self.question) for it in told}
         for file, its in told.items():
-            self.take(self.about(line, file), its)
+            self.pieces += its.pieces
+            self.known |= its.known
+            self.keep_asked(line, file, "yes", "yes" if its.known else "no", len(its.pieces))
         if told:
             self.left_over(line, list(told)[-1])
 
@@ -180,16 +173,19 @@ class Recall:
         except sqlite3.Error as fault:
             self.faults.append(f"{line.name}: {newest.file}: {fault}")
 
-    @staticmethod
-    def about(line: Line, file: catalogue.Archive) -> About:
-        """A file of a line as it is told of."""
-        return About(
-            line.name,
-            file.file,
-            file.sha256,
-            catalogue.spelled(file.first_minute),
-            catalogue.spelled(file.last_minute),
-        )
+    def keep_asked(
+        self,
+        line: Line,
+        it: catalogue.Archive,
+        asked: str,
+        known: str = "",
+        pieces: int = 0,
+        why: str = "",
+    ) -> None:
+        """Keeps what came of asking a file of a line."""
+        first, last = map(catalogue.spelled, (it.first_minute, it.last_minute))
+        came = (asked, known, pieces, why)
+        self.asked.append(Asked(line.name, it.file, it.sha256, first, last, *came))
 
     def proved(
         self, line: Line, told: dict[catalogue.Archive, Told], answer: chains.Answer
@@ -245,16 +241,6 @@ class Recall:
 
     def undecided(self) -> list[list[str]]:
         return [row for row in self.untraced if not row[-2]]
-
-    def take(self, about: About, told: Told) -> Told:
-        self.pieces += told.pieces
-        self.known |= told.known
-        self.asked.append(Asked(*about, "yes", "yes" if told.known else "no", len(told.pieces), ""))
-        return told
-
-    def miss(self, about: About, fault: Exception) -> None:
-        self.faults.append(f"{about[0]}: {fault}")
-        self.asked.append(Asked(*about, "no", "", 0, str(fault)))
 
     def doubt(self) -> None:
         """No desk places a piece twice: where a line has a board and a designator twice, two of its

@@ -5,8 +5,6 @@ them:
 """
 from __future__ import annotations
 
-import base64
-import binascii
 import contextlib
 import pathlib
 import socket
@@ -17,8 +15,6 @@ from typing import NamedTuple
 
 SUMS, SIGNATURE = "SHA256SUMS", "SHA256SUMS.sig"
 NAMESPACE = "tracedesk-recall"
-BEGIN, END = "-----BEGIN SSH SIGNATURE-----\n", "-----END SSH SIGNATURE-----\n"
-WIDTH = 70  # letters of a line of a signature
 LONGEST = 1 << 16  # bytes of a service's answer
 SECONDS = 60.0  # for which it is waited for
 
@@ -95,19 +91,6 @@ def at_hand(signature: bytes) -> Iterator[str]:
         yield copy.name
 
 
-def want_canonical(text: str) -> None:
-    """Stops at a signature that reads as another one does, but has other bytes."""
-    body = text.removeprefix(BEGIN).removesuffix(END)
-    try:
-        raw = base64.b64decode(body.replace("\n", ""), validate=True)
-    except (binascii.Error, ValueError) as fault:
-        raise NoSignature(f"{SIGNATURE} is no signature: {fault}") from fault
-    letters = base64.b64encode(raw).decode()
-    lines = [letters[at : at + WIDTH] for at in range(0, len(letters), WIDTH)]
-    if text != "".join([BEGIN, *(f"{line}\n" for line in lines), END]):
-        raise NoSignature(f"{SIGNATURE} is not as ssh-keygen writes it")
-
-
 class Signer(NamedTuple):
     """Who signed: the name in the file of allowed signers, and the fingerprint of the key."""
 
@@ -117,7 +100,6 @@ class Signer(NamedTuple):
 
 def signer(sums: bytes, signature: bytes, signers: pathlib.Path) -> Signer:
     """Who of a file of allowed signers signed these checksums; a NoSignature if nobody did."""
-    want_canonical(signature.decode("ascii", "replace"))
     with at_hand(signature) as path:
         words = ("-s", path, "-f", signers)
         try:
