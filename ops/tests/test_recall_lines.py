@@ -33,12 +33,10 @@ class Young:
         self.line.feed(first.splitlines())
         self.line.serve()
         ((self.lot, self.reel, self.machine),) = rows_of_archive(self.line.last, MOUNTED)
-        self.table = folder / "lines.csv"
 
     def recalled(self, show: str, status: int = 0) -> Rows:
-        """What the line's table in a file has of the lot."""
-        self.table.write_text("line,folder\nL1,young\n")
-        words = ["lot", self.lot, "--lines", self.table, "--show", show]
+        """What the line has of the lot."""
+        words: list[Word] = ["lot", self.lot, *self.line.recall_words(), "--show", show]
         done = recall(*words)
         if not self.line.archived:
             done.expect(status, "L1: no archives yet")

@@ -41,13 +41,12 @@ class Site:
         self.line, self.folder = line, folder
         self.queue = Queue(folder / "queue")
         self.queue.folder.mkdir()
-        self.lines = folder / "lines.csv"
-        self.lines.write_text(f"line,folder\nL1,{line.folder}\n")
+        self.asked_folder = line.folder
         made = importlib.import_module("tracedesk_ops.recallpage.app").make(self.queue.folder)
         self.client = made.test_client()
 
     def more(self) -> list[Word]:
-        return ["--program", self.line.program, "--lines", self.lines]
+        return ["--program", self.line.program, "--line", "L1", self.asked_folder]
 
     def worker(self) -> Worker:
         more = [str(word) for word in self.more()]
@@ -137,7 +136,7 @@ def test_the_papers_have_the_answer(site: Site) -> None:
 def test_an_answer_that_is_not_complete_says_why(site: Site) -> None:
     mirror = site.folder / "mirror/L1"
     shutil.copytree(site.line.folder / "sealed", mirror / "sealed")
-    site.lines.write_text(f"line,folder\nL1,{mirror}\n")
+    site.asked_folder = mirror
     at = site.asked("lot", "L-3")
     site.worker().work(is_once=True)
     page = site.page(at)

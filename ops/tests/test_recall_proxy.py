@@ -212,9 +212,7 @@ def chromium(site: RecallSite) -> Iterator[Any]:
 @pytest.fixture
 def reader(site: RecallSite, line: Line, chromium: Any) -> Reader:
     """Who recalls over a small line."""
-    lines = site.room / "lines.csv"
-    lines.write_text(f"line,folder\nL1,{line.folder}\n")
-    more = ["--program", str(line.program), "--lines", str(lines)]
+    more = ["--program", str(line.program), "--line", "L1", str(line.folder)]
     worker = Worker(site.queue, tool("recall"), more)
     made = Reader(site, chromium, worker)
     made.opens()

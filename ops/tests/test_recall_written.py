@@ -30,14 +30,11 @@ class Written:
     def __init__(self, world: World, folder: pathlib.Path) -> None:
         self.world, self.folder, self.lot = world, folder, lot_of(world)
         self.evidence = folder / "evidence"
-        lines = [f"{line.name},{os.path.relpath(line.folder, folder)}\n" for line in world.lines]
-        (folder / "lines.csv").write_text("line,folder\n" + "".join(lines))
         self.shipped = folder / "shipped.csv"
         self.shipped.write_text(SHIPPED)
 
     def recall(self, *more: Word) -> Ended:
-        lines: list[Word] = ["lot", self.lot, "--lines", self.folder / "lines.csv"]
-        return recall(*lines, "--shipped", self.shipped, *more)
+        return recall("lot", self.lot, *self.world.words(), "--shipped", self.shipped, *more)
 
 
 @pytest.fixture
@@ -138,10 +135,9 @@ def test_a_name_that_nobody_knows(world: World, kind: str) -> None:
     assert not table(done.expect(1, "nobody knows").out)
 
 
-# files that are no tables of lines, or none of shipped boards
+# files that are no tables of shipped boards
 FILES = {
-    "bad.csv": b"line\nL1\n",
-    "nul.csv": b"line,folder\nL1,a\0b\n",
+    "bad.csv": b"board\nB\n",
     "nobody.csv": b"board,customer,date\nB,,2026-03-09\n",
 }
 # `@` is a folder with these files, `:` the words of the first line, ARCHIVED a file
@@ -149,12 +145,9 @@ BAD_WORDS = (
     "lot X --line L1 -",
     "lot X : :",
     "part X :",
-    "lot X --lines @/bad.csv",
-    "lot X --lines @/none.csv",
-    "lot X --lines @/nul.csv",
+    "lot X : --shipped @/none.csv",
     "lot X : --shipped @/bad.csv",
     "lot X : --shipped @/nobody.csv",
-    "lot X --line L1 @/circle/L1",
     f"lot X --line L1 @/{'x' * 300}",
     "lot X --line L1 ARCHIVED",
 )
@@ -164,7 +157,6 @@ BAD_WORDS = (
 def test_words_that_are_not_taken(world: World, folder: pathlib.Path, text: str) -> None:
     for name, content in FILES.items():
         (folder / name).write_bytes(content)
-    (folder / "circle").symlink_to(folder / "circle")
     own = " ".join(strings(world.first.recall_words()))
     for name, value in (
         (" :", f" {own}"),

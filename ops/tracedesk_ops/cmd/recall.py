@@ -4,7 +4,7 @@ usage: tracedesk-recall lot NAME.. [--part PART] [OPTION]..
        tracedesk-recall board NAME [OPTION]..
        tracedesk-recall reel NAME.. [OPTION]..
        tracedesk-recall where ATTRIBUTE=VALUE.. [OPTION]..
-options:                [--line LINE FOLDER].. [--lines FILE]
+options:                [--line LINE FOLDER]..
                         [--within PIECES] [--show TABLE] [--shipped FILE] [--customer NAME]
                         [--evidence FOLDER [--key FILE]]
 
@@ -14,9 +14,9 @@ examples:
   tracedesk-recall lot L-77 L-78 --part CAP-100N
   tracedesk-recall where date_code=2614 part=CAP-100N
   tracedesk-recall lot L-77 --line L1 /var/lib/tracedesk/L1
-  tracedesk-recall lot L-77 --lines lines.csv --shipped shipped.csv --evidence L-77 > boards.csv
+  tracedesk-recall lot L-77 --shipped shipped.csv --evidence L-77 > boards.csv
   tracedesk-recall board SN-117 --line L1 /mirror/L1        a mirror, without what came since
-  tracedesk-recall reel K-01 --lines lines.csv --show reels
+  tracedesk-recall reel K-01 --show reels
 
 A line is its folder. tracedesk-chain reads its sealed files, once the checksum of each is that of
 its name, and a copy of its desk as it is now. It answers only if they are a chain: each file names
@@ -32,8 +32,6 @@ is 3.
 
 --line          a line's name, and its folder. Of a line on another computer name a mirror of it:
                 its newest sealed file stands for the desk, and the answer is not complete
---lines FILE    the same of several lines: a CSV file of the header line,folder; paths are from its
-                folder on
 --within PIECES  a label may be wrong by so many pieces: those so near a splice that they may be of
                 the neighbour are doubtful, from the second splice of a tape on the more
 --show TABLE    the table to print as CSV; without it pieces of a board, and boards of a lot or reel
@@ -124,7 +122,7 @@ def answer(asks: argparse.Namespace, room: pathlib.Path) -> int:
     shipped = words.shipped_of(asks.shipped) if asks.shipped else None
     os.nice(NICE)
     recall = asked(asks, lines, room)
-    if not asks.line and not asks.lines:
+    if not asks.line:
         recall.notes.append(
             f"by the files of {places.FOLDER} the lines are {', '.join(it.name for it in lines)}:"
             " one without a file there was not asked"

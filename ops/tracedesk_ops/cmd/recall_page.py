@@ -1,14 +1,14 @@
 """Recalls in a browser: serves the page, or works off its queue.
 
-usage: tracedesk-recall-page serve [--socket FILE | --port PORT] [--queue FOLDER]
+usage: tracedesk-recall-page serve [--socket FILE] [--queue FOLDER]
        tracedesk-recall-page work [--queue FOLDER] [--once] [-- WORD..]
 
 examples:
   tracedesk-recall-page serve                      as the unit does, for the proxy in front of it
   tracedesk-recall-page work                       as the other unit does: one recall at a time, at
                                                    low priority
-  tracedesk-recall-page work --once -- --lines lines.csv     other lines than those that are set up;
-                                                             the words are tracedesk-recall's
+  tracedesk-recall-page work --once -- --line L1 /mirror/L1       other lines than those that are set
+                                                   up; the words are tracedesk-recall's
 
 The proxy lets readers with a log-in of /etc/tracedesk/recallers in, and names them in the header
 X-Reader. `serve` takes their questions into the queue, and shows the answers. It reads no desk's
@@ -19,8 +19,6 @@ on disk, and answers stay there until somebody deletes their folder.
 
 --queue   the folder of the queue (/var/lib/tracedesk-recall)
 --socket  where the proxy finds the page (/run/tracedesk-recall/socket)
---port    a port of this machine instead, for a trial without a proxy: each caller is the reader
-          `trial`
 --once    ends once nothing waits
 
 The page wants python3-flask and python3-waitress. Without weasyprint it has no PDF, and without
@@ -35,7 +33,6 @@ import argparse
 import importlib
 import pathlib
 import sys
-from typing import Any
 
 from tracedesk_ops import plant, reader_of
 
@@ -55,7 +52,6 @@ def parse() -> argparse.Namespace:
     reader.add_argument("what", choices=("serve", "work"))
     reader.add_argument("--queue", type=pathlib.Path, default=QUEUE, metavar="FOLDER")
     reader.add_argument("--socket", type=pathlib.Path, default=SOCKET, metavar="FILE")
-    reader.add_argument("--port", type=int, metavar="PORT")
     reader.add_argument("--once", action="store_true")
     words = reader.parse_args(own)
     words.more = more
@@ -64,25 +60,13 @@ def parse() -> argparse.Namespace:
     return words
 
 
-def trial(app: Any) -> Any:
-    """The application with a reader that no proxy named."""
-
-    def named(environment: "dict[str, Any]", start: Any) -> Any:
-        return app({**environment, "HTTP_X_READER": "trial"}, start)
-
-    return named
-
-
 def serve(words: argparse.Namespace) -> None:
     from tracedesk_ops.recallpage import app
 
     made = app.make(words.queue)
     waitress = importlib.import_module("waitress")
-    if words.port:
-        waitress.serve(trial(made), host="127.0.0.1", port=words.port, threads=THREADS)
-    else:
-        its = {"unix_socket": str(words.socket), "unix_socket_perms": "660"}
-        waitress.serve(made, threads=THREADS, **its)
+    its = {"unix_socket": str(words.socket), "unix_socket_perms": "660"}
+    waitress.serve(made, threads=THREADS, **its)
 
 
 def work(words: argparse.Namespace) -> None:

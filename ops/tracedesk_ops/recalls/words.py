@@ -6,10 +6,9 @@ import csv
 import io
 import os
 import pathlib
-import stat
 import sys
 from collections.abc import Iterator, Sequence
-from typing import Any, NoReturn
+from typing import NoReturn
 
 from tracedesk_ops import options, places, plant, reader_of
 from tracedesk_ops.firstlook import Line
@@ -38,7 +37,6 @@ def parse(text: str | None) -> argparse.Namespace:
         "--show", choices=("boards", "pieces", "reels", "asked", "untraced", "doubtful")
     )
     for option, metavar in (
-        ("lines", "FILE"),
         ("shipped", "FILE"),
         ("evidence", "FOLDER"),
         ("key", "FILE"),
@@ -109,52 +107,27 @@ def rows_of(path: pathlib.Path, header: Sequence[str]) -> Iterator[list[str]]:
 
 def lines_of(words: argparse.Namespace) -> list[Line]:
     """The lines that are asked: those of the command line, else those of the set-up files."""
-    told = [(pathlib.Path(), *it) for it in words.line]
-    if words.lines:
-        rows = rows_of(words.lines, ("line", "folder"))
-        told += [(words.lines.parent, *it) for it in rows]
-    if not told:
-        told = [
-            (pathlib.Path(), it["line"], str(pathlib.Path(it["db"]).parent))
-            for it in options.set_ups()
-        ]
-    lines: list[Line] = []
-    seen: dict[tuple[str, Any], str] = {}
-    for folder, name, path in told:
-        it = line_of(folder, name, path)
-        for what in ("name", name), ("folder", it.folder):
-            if what in seen:
-                stop(
-                    f"the lines {seen[what]} and {name} have the same {what[0]}: each is asked once"
-                )
-            seen[what] = name
-        if not name:
-            stop("a line has no name")
-        lines.append(it)
+    told = words.line or [
+        (it["line"], str(pathlib.Path(it["db"]).parent)) for it in options.set_ups()
+    ]
+    lines = [line_of(*it) for it in told]
+    for named in ([it.name for it in lines], [str(it.folder) for it in lines]):
+        for it in named:
+            if named.count(it) > 1:
+                stop(f"two lines have the same name or folder, {it}: each is asked once")
     return lines or stop(
-        f"no line is named, and none is set up in {places.FOLDER}: --line NAME FOLDER, or --lines"
-        " FILE"
+        f"no line is named, and none is set up in {places.FOLDER}: --line NAME FOLDER"
     )
 
 
-def line_of(folder: pathlib.Path, name: str, path: str) -> Line:
-    """A line by its words; the path is from this folder on."""
-    if path in ("", "-"):
-        stop(f"the line {name} has no folder: name that of its desk")
-    at = pathlib.Path(os.path.abspath(folder / path))  # a link stays one, as in each tool
-    if not is_folder(at) and at.exists():
+def line_of(name: str, path: str) -> Line:
+    """A line by its words."""
+    if not name or path in ("", "-"):
+        stop(f"the line {name} has no name, or no folder: name that of its desk")
+    at = pathlib.Path(os.path.abspath(path))  # a link stays one, as in each tool
+    if at.exists() and not at.is_dir():
         stop(f"{at} is a file: name the folder of the line {name}")
     return Line(name, at)
-
-
-def is_folder(path: pathlib.Path) -> bool:
-    """Whether a folder is there. What no path can be, as links in a circle, is an OSError or a
-    ValueError.
-    """
-    try:
-        return stat.S_ISDIR(os.stat(path).st_mode)
-    except (FileNotFoundError, NotADirectoryError):
-        return False
 
 
 def shipped_of(path: pathlib.Path) -> Shipped:
