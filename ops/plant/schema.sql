@@ -4,6 +4,12 @@
 SET client_min_messages = warning;  -- not what is there already
 CREATE SCHEMA IF NOT EXISTS plant;
 SET search_path TO plant;
+\set ON_ERROR_STOP on
+DO $$ BEGIN
+    IF to_regprocedure('spelled(bigint)') IS NOT NULL THEN
+        RAISE EXCEPTION 'these are tables of 1.0.0: DROP SCHEMA plant CASCADE, then load anew';
+    END IF;
+END $$;
 
 CREATE SEQUENCE IF NOT EXISTS file_id AS integer;
 -- files that are loaded, or were: minutes are from 1970-01-01 00:00 UTC on
@@ -14,7 +20,6 @@ CREATE TABLE IF NOT EXISTS file (
     sha256       text NOT NULL,
     first_minute bigint,                        -- none of a desk without a command
     last_minute  bigint,
-    commands     bigint NOT NULL,
     pieces       bigint NOT NULL,
     taken        text NOT NULL,  -- when a running desk was sealed; empty of an archive
     dropped      boolean NOT NULL DEFAULT false, -- its pieces were taken out, by drop.sql
@@ -23,9 +28,6 @@ CREATE TABLE IF NOT EXISTS file (
     mark         text NOT NULL DEFAULT '',
     UNIQUE (line, name)
 );
-ALTER TABLE file ADD COLUMN IF NOT EXISTS mark text NOT NULL DEFAULT '',
-    DROP COLUMN IF EXISTS epochs, DROP COLUMN IF EXISTS desk,
-    DROP COLUMN IF EXISTS last_uid;  -- of 1.0.0
 CREATE INDEX IF NOT EXISTS file_digits ON file (left(sha256, 24));
 -- each accepted command but a ClockSet, by the MD5 of all that its sender said: two files of a line
 -- that have one which places pieces would count them twice
@@ -89,15 +91,6 @@ CREATE TABLE IF NOT EXISTS untraced (
     reason     text NOT NULL,
     PRIMARY KEY (line, id)
 );
-SELECT to_regclass('refused') IS NOT NULL AS is_old \gset
-\if :is_old
-    DROP VIEW IF EXISTS doubt;  -- of 1.0.0: what is in doubt is looked for anew
-    DROP TABLE refused, doubtful;
-    INSERT INTO lacking
-        SELECT line, 'untraced work and doubtful pieces', 'call tracedesk-plant-load again'
-        FROM looked WHERE line NOT LIKE '%; %' ON CONFLICT DO NOTHING;
-    DELETE FROM looked WHERE line NOT LIKE '%; %';
-\endif
 -- pieces that may be of another reel than placement says, as ops/tracedesk-recall has them
 CREATE TABLE IF NOT EXISTS doubtful (
     line        text NOT NULL,
@@ -131,7 +124,6 @@ CREATE TABLE IF NOT EXISTS reel (
     reel  text NOT NULL,
     part  text NOT NULL,
     lot   text NOT NULL,
-    level text NOT NULL,
     PRIMARY KEY (file, reel)
 );
 CREATE INDEX IF NOT EXISTS reel_lot ON reel (lot);
@@ -150,8 +142,6 @@ CREATE INDEX IF NOT EXISTS start_board ON start (board);
 -- more: the file was audited.
 CREATE TABLE IF NOT EXISTS placement (
     file       integer NOT NULL,
-    number     bigint NOT NULL,
-    place      integer NOT NULL,
     board      text NOT NULL,
     designator text NOT NULL,
     machine    text NOT NULL,
@@ -163,19 +153,6 @@ CREATE TABLE IF NOT EXISTS placement (
 CREATE INDEX IF NOT EXISTS placement_reel ON placement (reel);
 CREATE INDEX IF NOT EXISTS placement_board ON placement (board);
 
-SELECT to_regprocedure('spelled(bigint)') IS NOT NULL AS is_old \gset
-\if :is_old
-    DROP VIEW piece;  -- of 1.0.0, with minutes that were numbers
-    DROP FUNCTION pieces_of, spelled, knows, faults;
-    DROP FUNCTION IF EXISTS answer; DROP TABLE IF EXISTS own_name;
-    INSERT INTO lacking SELECT DISTINCT unnest(string_to_array(line, '; ')),
-        'untraced work and doubtful pieces',
-        'lines had one folder for them: call tracedesk-plant-load again'
-        FROM (SELECT line FROM looked UNION SELECT line FROM untraced) its
-        WHERE line LIKE '%; %' ON CONFLICT DO NOTHING;
-    DELETE FROM untraced WHERE line LIKE '%; %';
-    DELETE FROM looked WHERE line LIKE '%; %';
-\endif
 \ir asking.sql
 CREATE OR REPLACE FUNCTION moment(minute bigint) RETURNS timestamptz
 LANGUAGE sql IMMUTABLE PARALLEL SAFE AS $$ SELECT to_timestamp(minute * 60) $$;

@@ -26,15 +26,15 @@ NOW = """to_char(now() AT TIME ZONE 'UTC', 'YYYY-MM-DD"T"HH24MISS"Z"')"""
 FILES = f"""INSERT INTO line VALUES ('L1');
 DO $$ BEGIN FOR it IN 1 .. 3 LOOP
     INSERT INTO file VALUES (it, 'L1', CASE it WHEN 3 THEN 'running desk' ELSE 'archive-' || it END,
-        'sum', 1, it, 5, 200, CASE it WHEN 3 THEN {NOW} ELSE '' END);
-    INSERT INTO reel VALUES (it, 'R' || it, 'P', 'LOT', '1'), (it, 'S' || it, 'P', 'OTHER', '1');
+        'sum', 1, it, 200, CASE it WHEN 3 THEN {NOW} ELSE '' END);
+    INSERT INTO reel VALUES (it, 'R' || it, 'P', 'LOT'), (it, 'S' || it, 'P', 'OTHER');
     INSERT INTO state DEFAULT VALUES;
     EXECUTE format('CREATE TABLE placement_%s PARTITION OF placement FOR VALUES IN (%s)', it, it);
-    INSERT INTO placement SELECT it, n, 1,
+    INSERT INTO placement SELECT it,
         CASE n % 2 WHEN 0 THEN 'shared-' || n ELSE format('%s-%s-%s', current_database(), it, n) END,
         'C1', 'M', '1', CASE n % 3 WHEN 0 THEN 'S' ELSE 'R' END || it, false, n
         FROM generate_series(1, 200) n;
-    INSERT INTO start SELECT file, number, machine, board, minute FROM placement WHERE file = it;
+    INSERT INTO start SELECT file, minute, machine, board, minute FROM placement WHERE file = it;
 END LOOP; END $$"""
 PIECES, BOARDS, SHARED = 134, 67, 67  # of the lot in a file: all of them, alone and shared
 WAITING = "SELECT count(*) FROM pg_locks WHERE NOT granted"
@@ -159,12 +159,12 @@ def test_a_name_that_no_plant_knows(several: Several) -> None:
 def test_a_newer_seal_takes_the_place_of_the_older_one(several: Several) -> None:
     """As a load does it, in one transaction: until that is done, the answer is that of before."""
     newer = (
-        "INSERT INTO file SELECT 4, line, 'newer', sha256, 1, 9, 5, 300, taken FROM file"
+        "INSERT INTO file SELECT 4, line, 'newer', sha256, 1, 9, 300, taken FROM file"
         " WHERE id = 3; DELETE FROM file WHERE id = 3;"
         " UPDATE file SET name = 'running desk' WHERE id = 4;"
         " CREATE TABLE placement_4 PARTITION OF placement FOR VALUES IN (4);"
-        " INSERT INTO reel VALUES (4, 'R4', 'P', 'LOT', '1');"
-        " INSERT INTO placement SELECT 4, n, 1, 'newer-' || n, 'C1', 'M', '1', 'R4', false, n"
+        " INSERT INTO reel VALUES (4, 'R4', 'P', 'LOT');"
+        " INSERT INTO placement SELECT 4, 'newer-' || n, 'C1', 'M', '1', 'R4', false, n"
         " FROM generate_series(1, 300) n"
     )
     with session(several.plants["brno"], newer) as link:

@@ -18,12 +18,12 @@ NOW = """to_char(now() AT TIME ZONE 'UTC', 'YYYY-MM-DD"T"HH24MISS"Z"')"""
 FILES = f"""
 INSERT INTO line VALUES ('L1');
 INSERT INTO file VALUES
-    (1, 'L1', 'L1-a', '{ARCHIVE}{ARCHIVE}', 1, 9, 5, 4, '', false, 4, ''),
-    (2, 'L1', 'running desk', 'c', 1, 9, 5, 4, {NOW}, false, 4, '{ARCHIVE}');
-INSERT INTO reel VALUES (1, 'R', 'P', 'LOT', '1');
+    (1, 'L1', 'L1-a', '{ARCHIVE}{ARCHIVE}', 1, 9, 4, '', false, 4, ''),
+    (2, 'L1', 'running desk', 'c', 1, 9, 4, {NOW}, false, 4, '{ARCHIVE}');
+INSERT INTO reel VALUES (1, 'R', 'P', 'LOT');
 CREATE TABLE placement_1 PARTITION OF placement FOR VALUES IN (1);
 CREATE TABLE placement_2 PARTITION OF placement FOR VALUES IN (2);
-INSERT INTO placement VALUES (1, 1, 1, 'B1', 'C1', 'M', '1', 'R', false, 5);
+INSERT INTO placement VALUES (1, 'B1', 'C1', 'M', '1', 'R', false, 5);
 INSERT INTO start VALUES (1, 1, 'M', 'B1', 5);
 INSERT INTO state DEFAULT VALUES;
 """
@@ -113,10 +113,17 @@ def test_a_state_that_cannot_be_kept_is_said(database: Database) -> None:
         seen(database).rmdir()
 
 
+def test_tables_of_1_0_0_are_refused(database: Database) -> None:
+    old = databases.create(database.server, "old", schema="")
+    its = "FUNCTION plant.spelled(bigint) RETURNS text LANGUAGE sql AS 'SELECT null'"
+    old.psql("-c", f"CREATE SCHEMA plant; CREATE {its}")
+    assert "these are tables of 1.0.0" in old.query("schema", 3).said
+
+
 def test_a_file_of_a_mistyped_line_is_taken_out(database: Database) -> None:
     database.change(
         "INSERT INTO line VALUES ('L11');"
-        f"INSERT INTO file VALUES (3, 'L11', 'running desk', 'e', 1, 9, 5, 4, {NOW});"
+        f"INSERT INTO file VALUES (3, 'L11', 'running desk', 'e', 1, 9, 4, {NOW});"
         "CREATE TABLE placement_3 PARTITION OF placement FOR VALUES IN (3)"
     )
     ask(database)

@@ -22,16 +22,16 @@ RUNNING = catalogue.RUNNING
 ROWS_AT_A_TIME = 10_000
 # a placement as a line of COPY's text form, in which a backslash stands twice; names have neither
 # tabs nor line ends
-PLACEMENTS = """SELECT replace(?1 || char(9) || number || char(9) || place || char(9) || board || char(9) || designator || char(9) || placement.machine
+PLACEMENTS = """SELECT replace(?1 || char(9) || board || char(9) || designator || char(9) || placement.machine
     || char(9) || slot || char(9) || reel || char(9) || overdue || char(9) || effective, '\\', '\\\\') || char(10)
     FROM placement CROSS JOIN accepted USING (number) ORDER BY reel, number, place"""  # a reel's pieces lie on few pages
-REELS = "SELECT ?1, reel, part, lot, level FROM reel"
+REELS = "SELECT ?1, reel, part, lot FROM reel"
 STARTS = "SELECT ?1, number, command, effective FROM accepted WHERE command LIKE 'WorkStarted%'"
-SEEN = "SELECT count(*), min(effective), max(effective) FROM accepted"
+SEEN = "SELECT min(effective), max(effective) FROM accepted"
 SAID = "SELECT uid, source, own, command FROM accepted WHERE command <> 'ClockSet'"
 FILE = (
-    "INSERT INTO file (id, line, name, sha256, first_minute, last_minute, commands, pieces,"
-    " taken, said, mark) VALUES (%s, %s, %s, %s, %s, %s, %s, %s, %s, %s, %s)"
+    "INSERT INTO file (id, line, name, sha256, first_minute, last_minute, pieces,"
+    " taken, said, mark) VALUES (%s, %s, %s, %s, %s, %s, %s, %s, %s, %s)"
 )
 PLACES = "MaterialsInstalled\t"  # how the commands begin that place pieces
 
@@ -158,12 +158,12 @@ class Tables:
         """
         said = self.commands_of(database)
         replaced, cut = self.gives_way(seen, said)
-        ((commands, first, last),) = database.execute(SEEN)
+        ((first, last),) = database.execute(SEEN)
         with self.link.transaction():
             number = self.rows("SELECT nextval('file_id') AS it")[0].it
             pieces = self.part(number, database)
             self.give_way(seen, replaced, cut)
-            told = (commands, pieces, seen.taken, said, sealed.begun_from(database))
+            told = (pieces, seen.taken, said, sealed.begun_from(database))
             self.do(FILE, number, seen.line, seen.name, seen.sha256, first, last, *told)
             self.do("INSERT INTO command SELECT %s, identity, places FROM its", number)
             self.expect(seen.line)
