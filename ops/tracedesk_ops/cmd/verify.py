@@ -10,7 +10,7 @@ FOLDER is what tracedesk-recall --evidence wrote. SHA256SUMS must have a signatu
 nothing else is read before. Each file that it names must be there with its checksum, and no other.
 Its tables must be those that its certificate names. With the archives at hand tracedesk-chain is
 asked again, and must give the same answer. A running desk has gone on since: its part is not asked
-again. Standard error says what was asked, when, of which lines, and whether the answer is complete.
+again. Standard error names the question, its time and lines, and whether the answer is complete.
 
 --signers FILE     whose signatures count: lines as `plant namespaces="tracedesk-recall" ssh-ed25519
                    AAAA..`, which the plant gives you by another way than with the evidence
@@ -22,8 +22,8 @@ Without our tools: ssh-keygen -Y verify -f FILE -I plant -n tracedesk-recall -s 
 SHA256SUMS
 and then:          sha256sum --check --strict SHA256SUMS
 
-Exit status: 0 verified; 1 refused: it is not what the plant gave and signed, or the answer doesn't
-come again; 2 bad command line; 3 tracedesk-chain gives no answer; 9 an unexpected failure.
+Exit status: 0 verified; 1 refused: the plant didn't sign it, something was changed, or the answer
+doesn't come again; 2 bad command line; 3 tracedesk-chain gives no answer; 9 an unexpected failure.
 """
 from __future__ import annotations
 
