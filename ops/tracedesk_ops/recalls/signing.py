@@ -49,18 +49,18 @@ def by_socket(sums: bytes, socket_at: pathlib.Path) -> bytes:
             link.sendall(sums)
             link.shutdown(socket.SHUT_WR)
             with link.makefile("rb") as answer:
-                return answer.read(LONGEST)
+                signature = answer.read(LONGEST)
     except OSError as fault:
         raise NoSignature(f"{socket_at} can't be asked: {fault}") from fault
+    if not signature:
+        raise NoSignature(f"{socket_at} signs nothing: the journal of its service says why")
+    return signature
 
 
 def fingerprint(key: pathlib.Path) -> str:
     """The fingerprint of a private key, or of that of a service."""
     if key.is_socket():
-        signature = by_socket(b"", key)
-        if not signature:
-            raise NoSignature(f"{key} signs nothing: its service says why in the journal")
-        with at_hand(signature) as path:
+        with at_hand(by_socket(b"", key)) as path:
             check = ("-Y", "check-novalidate", "-n", NAMESPACE, "-s", path)
             return keygen(*check).split()[-1]
     try:
