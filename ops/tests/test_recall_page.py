@@ -5,6 +5,7 @@ import csv
 import html
 import importlib
 import io
+import json
 import multiprocessing
 import os
 import pathlib
@@ -109,6 +110,18 @@ def test_a_reader_finds_the_boards(site: Site) -> None:
     site.expect_no_inside(page)
     assert "Is next." in site.page(second)
     assert "complete" in site.page("/recall/")
+
+
+def test_a_label_may_be_wrong(site: Site) -> None:
+    at = site.asked("lot", "L-3", within=" 2 ")
+    assert "--within=2" in site.queue.waiting()[0].asked.words()
+    site.worker().work(is_once=True)
+    told = json.loads(
+        (site.queue.folder / at.split("/")[-2] / "evidence/certificate.json").read_text()
+    )
+    assert told["question"]["within"] == "2 pieces of a splice"
+    assert "Complete: 1 board" in site.page(at)
+    assert site.ask("lot", "L-3", within="x").status_code == 400
 
 
 def test_the_papers_have_the_answer(site: Site) -> None:

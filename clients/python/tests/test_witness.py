@@ -63,7 +63,7 @@ def test_a_difference_is_of_its_slot_also_where_nobody_could_say_it(line: Line) 
     assert line.say("MaterialsSpliced", Slot="1", Reel="1-K2") == "go"
 
 
-ODD = (["1-K1"], ["1-K1"] * 3, ["1-K1", 5], "1-K1", {}, 0)
+ODD: tuple[Any, ...] = (["1-K1"], ["1-K1"] * 3, ["1-K1", 5], "1-K1", {}, 0)
 
 
 @pytest.mark.parametrize("reels", ODD)

@@ -80,8 +80,12 @@ def asked_in(form: "dict[str, str]", reader: str, has_list: bool) -> JobQuestion
         names, part = (*names, f"part={part}"), ""
     if part and kind != "lot":
         raise NoQuestion("A part may be named with a lot or an attribute.")
+    within = form.get("within", "").strip() or "0"
+    if not (within.isascii() and within.isdecimal() and len(within) < 6):
+        raise NoQuestion("By how many pieces a label may be wrong is a number below 100,000.")
     now = datetime.datetime.now(datetime.timezone.utc)
-    return JobQuestion(kind, names, part, reader, f"{now:%Y-%m-%d %H:%M} UTC", has_list)
+    at = f"{now:%Y-%m-%d %H:%M} UTC"
+    return JobQuestion(kind, names, part, reader, at, has_list, int(within))
 
 
 def title_of(asked: JobQuestion) -> str:
@@ -122,7 +126,7 @@ class Site:
             | {"at": question.at, "state": state_of(self.queue, job)}
             for job, question in self.queue.questions(reversed(self.queue.all()[-MOST_SHOWN:]))
         ]
-        asked = {name: values.get(name, "") for name in ("kind", "names", "part")}
+        asked = {name: values.get(name, "") for name in ("kind", "names", "part", "within")}
         its = {"refused": refused, "kinds": KIND_TEXTS, "asked": asked, "jobs": jobs}
         return pages.page(pages.FORM, "Recall", its), status
 

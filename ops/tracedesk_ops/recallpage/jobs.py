@@ -46,7 +46,9 @@ class Full(Exception):
 
 @dataclasses.dataclass(frozen=True)
 class JobQuestion:
-    """What a reader asks. `names` are lots, reels or a board, or attributes as `date_code=2614`."""
+    """What a reader asks. `names` are lots, reels or a board, or attributes as `date_code=2614`;
+    `within` is how many pieces a label may be wrong by.
+    """
 
     kind: str
     names: tuple[str, ...]
@@ -54,11 +56,13 @@ class JobQuestion:
     reader: str
     at: str
     has_list: bool = False
+    within: int = 0
 
     def words(self, options: Sequence[str] = ()) -> list[str]:
         """The words of tracedesk-recall, of which no name is an option."""
         part = [f"--part={self.part}"] if self.part else []
-        return [self.kind, *part, *options, "--", *self.names]
+        within = [f"--within={self.within}"] if self.within else []
+        return [self.kind, *part, *within, *options, "--", *self.names]
 
     def same(self, other: "JobQuestion") -> bool:
         return self.words() == other.words() and not (self.has_list or other.has_list)
@@ -67,12 +71,13 @@ class JobQuestion:
 def asked_in(text: bytes) -> JobQuestion:
     """The question of a file; a ValueError if it is none."""
     told: Any = json.loads(records.shallow(text))
-    names = told["names"] if isinstance(told, dict) and set(told) == FIELDS else None
+    told = {"within": 0, **told} if isinstance(told, dict) else {}
+    names = told["names"] if set(told) == FIELDS else None
     if not (isinstance(names, list) and names and told["kind"] in KINDS):
         raise ValueError("it is no question of the page")
     texts = [told[name] for name in ("part", "reader", "at")]
-    if not all(isinstance(it, str) for it in (*names, *texts)):
-        raise ValueError("a name is no text")
+    if not all(isinstance(it, str) for it in (*names, *texts)) or type(told["within"]) is not int:
+        raise ValueError("a name is no text, or a number is none")
     for name in (*names, *([told["part"]] if told["part"] else [])):
         try:
             options.identifier(name)

@@ -120,6 +120,10 @@ FORM = """
   required autofocus>
 <label for="part">Only this part, for a lot or an attribute (may be empty)</label>
 <input type="text" id="part" name="part" value="{{ asked.part }}" autocomplete="off">
+<label for="within">By how many pieces a label may be wrong: pieces so near a splice are doubtful
+(may be empty)</label>
+<input type="text" id="within" name="within" value="{{ asked.within }}" inputmode="numeric"
+  autocomplete="off">
 <label for="shipped">Shipped boards: a CSV file with the columns board, customer and date
 (may be empty)</label>
 <input type="file" id="shipped" name="shipped" accept=".csv,text/csv">
