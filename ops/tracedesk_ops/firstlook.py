@@ -28,7 +28,8 @@ class Line(NamedTuple):
 
 class Question(NamedTuple):
     """What is asked: `kind` is lot, board, reel, or reels, a set of them whose `name` is a title. A
-    lot may be asked for its pieces of one part. `within` is how many pieces a label may be wrong by.
+    lot may be asked for its pieces of one part. `within` is by how many pieces a label may be
+    wrong.
     """
 
     kind: str

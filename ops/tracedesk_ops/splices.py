@@ -1,5 +1,5 @@
-"""Pieces near splices: they may be of the neighbour on the tape, since no reel has exactly the pieces
-of its label.
+"""Pieces near splices: they may be of the neighbour on the tape, since no reel has exactly the
+pieces of its label.
 
 Each label may be wrong by some pieces. So the first splice of a tape was so many pieces earlier or
 later than the desk has it; the next one by those of two labels, and so on. A reel that was taken

@@ -7,8 +7,9 @@ examples:
   tracedesk-recall-page serve                      as the unit does, for the proxy in front of it
   tracedesk-recall-page work                       as the other unit does: one recall at a time, at
                                                    low priority
-  tracedesk-recall-page work --once -- --line L1 /mirror/L1       other lines than those that are set
-                                                   up; the words are tracedesk-recall's
+  tracedesk-recall-page work --once -- --line L1 /mirror/L1
+                                                   other lines than those that are set up; the words
+                                                   are tracedesk-recall's
 
 The proxy lets readers with a log-in of /etc/tracedesk/recallers in, and names them in the header
 X-Reader. `serve` takes their questions into the queue, and shows the answers. It reads no desk's

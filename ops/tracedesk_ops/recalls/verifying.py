@@ -44,7 +44,7 @@ def read(folder: pathlib.Path, name: str, most: int) -> bytes:
 
 
 def signed(folder: pathlib.Path, signers: pathlib.Path) -> tuple[signing.Signer, Contents]:
-    """Who signed the evidence, and the files that the signature names, which are all that is there."""
+    """Who signed the evidence, and the files that the signature names, which are all of it."""
     sums, signature = (read(folder, name, MOST_SIGNED) for name in (SUMS, SIGNATURE))
     try:
         who = signing.signer(sums, signature, signers)
@@ -62,7 +62,7 @@ def signed(folder: pathlib.Path, signers: pathlib.Path) -> tuple[signing.Signer,
 
 
 def told_in(contents: Contents, who: signing.Signer) -> dict[str, Any]:
-    """What the certificate says, once it is of this signer, and the tables are those that it says."""
+    """What the certificate says, if it is of this signer, and the tables are those that it names."""
     try:
         told = dict(json.loads(contents[certificate.FILE_NAME]))
         if told["certificate"] != certificate.KIND:
