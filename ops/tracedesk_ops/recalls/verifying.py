@@ -62,7 +62,7 @@ def signed(folder: pathlib.Path, signers: pathlib.Path) -> tuple[signing.Signer,
 
 
 def told_in(contents: Contents, who: signing.Signer) -> dict[str, Any]:
-    """What the certificate says, if it is of this signer, and the tables are those that it names."""
+    """What the certificate says, if it is of this signer and names the tables that are there."""
     try:
         told = dict(json.loads(contents[certificate.FILE_NAME]))
         if told["certificate"] != certificate.KIND:
