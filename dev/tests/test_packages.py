@@ -91,7 +91,7 @@ def test_each_file_for_a_plant_is_there(packages: Packages) -> None:
     """
     tracked = run("git", "-C", ROOT, "ls-files", check=True).stdout.split()
     places = (
-        (r"packaging/(.*\.(?:service|timer))", r"lib/systemd/system/\1"),
+        (r"packaging/(.*\.(?:service|socket|timer))", r"lib/systemd/system/\1"),
         (r"packaging/(.*)\.(sysusers|tmpfiles)", r"usr/lib/\2.d/\1.conf"),
         (r"packaging/((?:limits|prometheus)/.*)", r"usr/share/tracedesk/\1"),
         (r"ops/(tracedesk-[^/]*|tracedesk_ops/.*)", r"usr/lib/tracedesk/\1"),
