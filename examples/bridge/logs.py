@@ -139,8 +139,8 @@ def identity(inode: int, head: bytes) -> Told:
 class Following:
     """The file of a path, and those that were renamed and may still get lines, the oldest first.
 
-    A file is read on by its inode, whatever its name is now. One that was never read is a gap if its
-    name begins with that of the path; those that are there at the first run with a spool are
+    A file is read on by its inode, whatever its name is now. One that was never read is a gap if
+    its name begins with that of the path; those that are there at the first run with a spool are
     known."""
 
     def __init__(self, bridge: Bridge, path: pathlib.Path, position: dict[str, Any]) -> None:

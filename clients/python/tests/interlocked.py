@@ -67,7 +67,7 @@ class Plant:
         command.chmod(0o755)
         self.server = Server(Model())
         self.model = self.server.model
-        often = ["--rate", "0", "--every", "0.1", "--silence", "3"]
+        often = ["--every", "0.1", "--silence", "3"]
         where = ["--url", self.server.url, "--spool", str(room / "spool")]
         where += ["--follow", str(self.out), "--scans", str(self.scans)]
         lock = ["--interlock", str(command), "--machine", "M1"]

@@ -1,4 +1,4 @@
-"""What is outside of a sender, as a model: a desk, the way to it, files, a clock, and others who act.
+"""What is outside of a sender, as a model: a desk, the way to it, files, a clock, and others.
 
 The program itself runs in this process. Whenever it changes a file or asks the desk it may be
 killed, get a fault, or be put off while somebody else acts, as the seed of the run says. Time
@@ -281,8 +281,8 @@ class World:
             self.follow()
         self.look_at_all(self.send())
         if self.copied:
-            desk_, (*kept, since) = self.desk, self.copied
-            desk_.accepted, desk_.archived, desk_.history = kept  # type: ignore[assignment]
+            its, (accepted, archived, history, since) = self.desk, self.copied
+            its.accepted, its.archived, its.history = accepted, archived, history
             at = time.strftime("%Y-%m-%dT%H:%M:%S+00:00", time.gmtime(since - 1))
             self.send("--again", at)
             self.look_at_all(self.send())

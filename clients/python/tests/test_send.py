@@ -83,13 +83,6 @@ def test_no_answer_is_asked_again_after_pauses_that_grow(lab: Lab) -> None:
     assert b"4 times sent again" in done.stderr
 
 
-def test_the_rate_has_a_limit(lab: Lab) -> None:
-    lab.send("--put", "-", given=b"\n".join(line(f"u{n}") for n in range(8)))
-    lab.send("--rate", "10")
-    times = [at for at, _ in lab.server.came]
-    assert times[7] - times[0] >= 0.59  # the second comes after the first is answered
-
-
 def test_what_a_person_has_to_mend_is_reported_and_tried_seldom(lab: Lab) -> None:
     lab.send("--put", "-", given=line("u1"))
     for status, told in (
@@ -151,14 +144,12 @@ def test_a_server_that_hangs_is_cut_and_reported() -> None:
 
 def test_two_senders_of_a_folder_lose_nothing(lab: Lab) -> None:
     """The folder is made anew, so that the lock on it holds no second sender off."""
-    running = [
-        subprocess.Popen(lab.words("--follow", lab.out, "--rate", "0"), stderr=subprocess.DEVNULL)
-    ]
+    running = [subprocess.Popen(lab.words("--follow", lab.out), stderr=subprocess.DEVNULL)]
     try:
         lab.wait_for(lambda: at_port.rows_in(lab.spool, "SELECT 1 FROM kept"))
         lab.out.rmdir()
         lab.out.mkdir()
-        words = lab.words("--follow", lab.out, "--rate", "0")
+        words = lab.words("--follow", lab.out)
         words[words.index("--spool") + 1] = str(lab.room / "other")
         running.append(subprocess.Popen(words, stderr=subprocess.DEVNULL))
         wanted = {f"u{number}{n}" for number in range(60) for n in range(3)}

@@ -63,8 +63,6 @@ class Plant(killed.Run):
                 "op",
                 "--password-file",
                 site.room / "password",
-                "--rate",
-                "0",
                 "--timeout",
                 "20",
                 "--spool",

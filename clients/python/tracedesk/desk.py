@@ -74,9 +74,9 @@ class Desk:
     """One connection, made when it is needed and again when it is broken.
 
     `trust` is an ssl.SSLContext, with a client's certificate where there is one; `log_in` a user
-    and a password; `rate` the most tries in a second, 0 for no limit; `patience` none for ever;
-    `tell` takes a line of news. With `waits` what a person has to mend, as a log-in that is
-    refused, is reported and tried again, but seldom. A URL that names none is a ValueError.
+    and a password; `patience` none for ever; `tell` takes a line of news. With `waits` what a
+    person has to mend, as a log-in that is refused, is reported and tried again, but seldom. A URL
+    that names none is a ValueError.
     """
 
     def __init__(
@@ -87,7 +87,6 @@ class Desk:
         *,
         patience: Optional[float] = PATIENCE,
         timeout: float = TIMEOUT,
-        rate: float = 0.0,
         waits: bool = False,
         tell: Callable[[str], None] = lambda line: None,
     ) -> None:
@@ -110,7 +109,7 @@ class Desk:
         self.connection: Optional[http.client.HTTPConnection] = None
         self.socket: Optional[socket.socket] = None
         self.waits, self.fault = waits, None  # type: bool, Optional[Dict[str, str]]
-        self.interval, self.next_try, self.sent_again = (1 / rate if rate else 0.0), 0.0, 0
+        self.sent_again = 0
         # whether there was a try of the last message that may have been accepted without an answer
         self.is_unanswered = False
 
@@ -213,9 +212,6 @@ class Desk:
                 next_news = now + NEWS
 
         while True:
-            if (ahead := self.next_try - time.monotonic()) > 0:
-                time.sleep(ahead)
-            self.next_try = time.monotonic() + self.interval
             found, stop = None, None  # type: Optional[Any], Optional[NotTaken]
             try:
                 with self.within(end, news):
@@ -393,7 +389,6 @@ class Desk:
         made = copy.copy(self)
         made.patience = made.timeout = seconds
         made.waits, made.tell = False, lambda line: None
-        made.interval = 0.0
         return made
 
     def report(self, path: str, detail: Optional[int] = None, **asked: Any) -> List[Any]:

@@ -96,8 +96,6 @@ its answer is in ANSWERS.
 --stop-at-refusal  ends the run at such a message, on standard error. A request stays the next one
                    that is sent, so that it is sent again once its fault is mended. A report of work
                    is done with: it is set aside, or its answer is kept
---rate N           at most so many tries in a second (with a spool 40, since nginx lets 50 pass); 0
-                   is no limit
 --patience SECONDS  for one message: 600, and with a spool no end. A line after ten seconds, and
                     then each minute, says that
                    there is no answer, and why
@@ -128,7 +126,6 @@ from . import __version__, by_hand, command, desk, disk, interlock, scans, sende
 from . import two_files, untraced, validate
 from .console import NAME, ended, say, tell
 
-RATE = 40.0  # messages a second of one spool
 NAMED = re.compile("[A-Za-z0-9_-][A-Za-z0-9._-]{0,63}")
 
 
@@ -228,7 +225,6 @@ def reader_of_words() -> argparse.ArgumentParser:
     reader.add_argument("--cert", metavar="FILE", help="a certificate in place of a password")
     reader.add_argument("--key", metavar="FILE", help="its key")
     reader.add_argument("--stop-at-refusal", action="store_true")
-    reader.add_argument("--rate", type=float, metavar="N", help="tries in a second")
     reader.add_argument("--patience", type=float, metavar="SECONDS", help="for one message")
     reader.add_argument(
         "--timeout",
@@ -330,14 +326,12 @@ def desk_of(
     patience = (
         asked.patience if asked.patience is not None else None if asked.spool else desk.PATIENCE
     )
-    rate = asked.rate if asked.rate is not None else RATE if asked.spool else 0.0
     return desk.Desk(
         url or asked.url,
         trust,
         log_in,
         patience=patience,
         timeout=timeout or asked.timeout,
-        rate=rate,
         waits=bool(asked.spool),
         tell=tell,
     )

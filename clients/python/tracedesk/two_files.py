@@ -1,5 +1,5 @@
-"""Sends the lines of one file, and adds their answers to another. It goes by a spool, ANSWERS.spool,
-by which a run that is started again goes on.
+"""Sends the lines of one file, and adds their answers to another. It goes by a spool,
+ANSWERS.spool, by which a run that is started again goes on.
 """
 from __future__ import annotations
 

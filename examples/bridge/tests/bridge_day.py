@@ -209,7 +209,7 @@ class Run(killed.Run):
         sender = [sys.executable, SENDER, "--url", f"http://127.0.0.1:{self.port}"]
         return {
             "desk": serving(self.program, self.at, self.port, 1_000_000),
-            "sender": [*sender, "--spool", self.spool, "--rate", "0", "--stay"],
+            "sender": [*sender, "--spool", self.spool, "--stay"],
             "bridge": self.room.command(*self.source()),
         }
 
