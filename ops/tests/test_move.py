@@ -29,7 +29,7 @@ from tracedesk_ops.cmd import move
 
 REELS = 6  # of a seed
 MET = {  # what comes of the reels of the seeds in the gate, among others
-    3: {"moved", "ReelEmpty", "ReelMounted"},
+    3: {"moved", "ReelMounted"},
     4: {"ClockAhead", "ReelMounted"},
 }
 LONG = [seed for seed in range(1, 101) if seed not in MET]

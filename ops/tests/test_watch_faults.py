@@ -2,21 +2,17 @@
 import contextlib
 import os
 import pathlib
-import random
 import shutil
 import subprocess
-import time
 from typing import Iterator, Optional
 
 import pytest
 from lab.site import WELL
-from lab.tools import started
 from lab.waits import wait_for
-from lab.watched import COME_AGAIN, Watched, expect, read, saying, watched
+from lab.watched import COME_AGAIN, Watched, expect, saying, watched
 
 pytestmark = [pytest.mark.needs("nginx", "openssl"), pytest.mark.xdist_group("watch_faults")]
 
-KILLS = 40
 JSON = "application/json"
 OVERDUE = "board,designator,reel,minute\n"
 SLOTS = "slot,position,reel,part,lot,remaining,minutes_left\n"
@@ -245,26 +241,3 @@ def test_a_full_disk_leaves_the_file_before(its: Watched) -> None:
         assert sorted(os.listdir(at)) == ["filler", "metrics"]
     finally:
         subprocess.run(["umount", at], check=True)
-
-
-@pytest.mark.whole
-def test_a_run_that_is_killed_leaves_a_whole_file(its: Watched) -> None:
-    chance = random.Random(1)
-    its.look()
-    for _ in range(KILLS):
-        running = started(its.words(), {"PATH": its.site.path})
-        time.sleep(chance.uniform(0.05, 0.4))  # it is killed at some moment of its run
-        running.kill()
-        running.communicate()
-        read(its.file.read_text())
-
-
-@pytest.mark.whole
-def test_six_runs_at_once_leave_a_whole_file(its: Watched) -> None:
-    its.look()
-    crowd = [started(its.words(), {"PATH": its.site.path}) for _ in range(6)]
-    while any(running.poll() is None for running in crowd):
-        read(its.file.read_text())
-    assert [running.communicate()[1] for running in crowd] == [""] * 6
-    assert not any(running.returncode for running in crowd)
-    assert os.listdir(its.file.parent) == ["metrics"]
