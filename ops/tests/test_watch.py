@@ -113,7 +113,7 @@ def test_the_desks_file_is_not_opened(its: Watched) -> None:
     (its.room / "pipes").mkdir()
     for name in ("desk", "desk-wal"):
         os.mkfifo(its.room / "pipes" / name)
-    found = its.metrics(db=its.room / "pipes/desk")
+    found = its.metrics(line=its.room / "pipes")
     expect(found, file_bytes=0, log_bytes=0, up=1, watch_source_up__file=1)
 
 
