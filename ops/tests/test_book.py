@@ -232,7 +232,7 @@ def test_a_person_decides_about_rows_that_no_copy_has(line: Line) -> None:
     person: list[Word] = ["--by", PERSON[0], "--became", "looked at", "--reason", "on paper"]
     untraced_tool(line, "decide", "lost", *person).expect()
     untraced_tool(line, "list").expect()
-    line.recall().expect()
+    line.recall(lot="L-3").expect()
     line.seal().expect()
     none = untraced_tool(line, "decide", "lost", *person)
     none.expect(3, "no row is lost that a desk has recorded")
