@@ -26,7 +26,7 @@ from tracedesk_ops.recalls.evidence import sums_of
 
 pytestmark = [pytest.mark.needs("ssh-keygen"), pytest.mark.xdist_group("verify")]
 
-FLIPS = 1_000
+FLIPS = 250  # each is two calls of ssh-keygen
 
 
 class Plant:
@@ -194,7 +194,7 @@ def status_of(folder: pathlib.Path, signers: pathlib.Path) -> str:
     return ""
 
 
-def test_each_of_a_thousand_flipped_bits_is_refused(plant: Plant, seed: int) -> None:
+def test_each_flipped_bit_is_refused(plant: Plant, seed: int) -> None:
     """Half of them in the checksums and the signature, which are small. Of the signature that is
     its letters: ssh-keygen reads them whatever ends their lines.
     """
