@@ -1,11 +1,16 @@
-//! The plain desk by itself, and both desks side by side.
+//! The plain desk by itself, both desks side by side, and the book of a line.
 
 mod answers;
+mod book;
 mod cases;
 mod counts;
 mod desks;
+mod entries;
+mod line_texts;
+mod members;
 mod reading;
 mod rows;
+mod sending;
 mod usable;
 
 use desk_types::Id;

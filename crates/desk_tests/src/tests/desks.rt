@@ -9,22 +9,14 @@ ghost use Rattle.desk_tests.specs.Beside.{AreOfOneList};
 use super::cases::CASES;
 use super::id;
 use super::rows::{COUNTS, EACH_WORD, MOVED, TWO_BOARDS, message, messages};
-use desk_types::{Desk, Id, JudgeFault, Replies, Rules, Stamped, run};
+use super::sending::replies_of;
+use desk_types::{Desk, Id, JudgeFault, Replies, Rules, Stamped};
 use feeder_state::StateDesk;
 use look_back::PlainDesk;
 use state_rows::{RowSet, rows_of};
 use std::alloc::{AllocError, Global};
 use std::process::Abort;
 use std::test::Fail;
-
-fn replies<D: Desk>(alloc: Global, desk: &mut D, messages: &[Stamped]) -> Result<Replies, Fail>
-    requires { HasRoom D.Stands desk.old 1000 }
-{
-    if messages.len() > 1_000 {
-        return Err("too many messages")?;
-    }
-    Ok(run(alloc, desk, messages)?)
-}
 
 /// A desk after some messages, and its replies.
 #[derive(Drop)]
@@ -40,7 +32,7 @@ pub fn run_new<D: Desk + Drop>(
     messages: &[Stamped],
 ) -> Result<Ran<D>, Fail> {
     let mut desk = D::fresh(alloc, rules);
-    let told = replies(alloc, &mut desk, messages)?;
+    let told = replies_of(alloc, &mut desk, messages)?;
     Ok(Ran { desk, told })
 }
 
@@ -223,7 +215,7 @@ fn goes_on(
     requires { HasRoom Represents restored.old 1000 }
 {
     same_views(rt, desk, &*restored, PRODUCTS, NAMES)?;
-    let told = replies(alloc, restored, left)?;
+    let told = replies_of(alloc, restored, left)?;
     assert!(rt;
         plain.told.as_slice().ends_with(told.as_slice()),
         "with {} left",

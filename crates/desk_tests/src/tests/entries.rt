@@ -1,21 +1,15 @@
 //! Entries of messages to an empty desk, and their rows.
 
+use super::id;
+use super::sending::command;
 use cfx_profile::MessageFault;
 use desk_answers::Answer;
-use desk_types::{Command, Desk, Id, Refusal, Rules};
+use desk_types::{Desk, Refusal, Rules};
 use feeder_state::StateDesk;
 use line_book::{Matter, Note, Reading};
 use line_entries::{Place, Sender, fault_note, faulty, plain_note, refusal_note, refused, row_of};
 use std::alloc::Global;
 use std::test::Fail;
-
-fn id(text: &str) -> Result<Id, Fail> {
-    Ok(Id::read(text.as_bytes()).ok_or("no id")?)
-}
-
-fn command(alloc: Global, text: &str) -> Result<Command, Fail> {
-    Ok(Command::read_text(alloc, text.as_bytes())?.ok_or("no command")?)
-}
 
 /// Returns the entry that the command makes if an empty desk refuses it.
 fn entry_of(alloc: Global, text: &str, refusal: Refusal) -> Result<Option<Matter>, Fail> {

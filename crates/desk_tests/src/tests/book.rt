@@ -6,7 +6,9 @@ mod random;
 ghost use Rattle.std.specs.Prelude.{IfOk};
 ghost use Rattle.desk_types.specs.Desk.{HasRoom};
 
-use desk_types::{Command, Desk, Id, Listing, Minute, Replies, Reply, Rules, Stamped, run};
+use super::id;
+use super::sending::{messages, replies_of};
+use desk_types::{Desk, Listing, Reply, Rules, Stamped};
 use feeder_state::StateDesk;
 use line_book::{BookRow, Cause, Guard, Matter, Note, Reading, RowFault, Stock, restore};
 use std::alloc::Global;
@@ -30,47 +32,13 @@ WorkStarted\tM1\tB1
 MaterialsUnloaded\tM1\t1
 MaterialsLoaded\tM1\t1\tR1";
 
-fn id(text: &str) -> Result<Id, Fail> {
-    Ok(Id::read(text.as_bytes()).ok_or("no id")?)
-}
-
-fn message(alloc: Global, text: &str) -> Result<Stamped, Fail> {
-    let command = Command::read_text(alloc, text.as_bytes())?;
-    Ok(Stamped {
-        uid: id("u")?,
-        source: id("S")?,
-        minute: Minute::new(10).ok_or("no minute")?,
-        command: command.ok_or("no command")?,
-    })
-}
-
-fn messages(alloc: Global, lines: &str) -> Result<Vec<Stamped>, Fail> {
-    let mut messages = Vec::new(alloc);
-    for line in lines.split('\n') {
-        messages.push(message(alloc, line)?)?;
-    }
-    Ok(messages)
-}
-
 fn is_refused(reply: &Reply) -> bool {
     matches!(reply, Reply::Refused(_))
 }
 
-/// Sends messages.
-fn replies_of<D: Desk>(alloc: Global, desk: &mut D, messages: &[Stamped]) -> Result<Replies, Fail>
-    requires { HasRoom D.Stands desk.old 100 }
-    ensures { IfOk result (λ replies. HasRoom D.Stands desk.new 0) }
-{
-    if messages.len() > 100 {
-        return Err("too many messages")?;
-    }
-    let replies = run(alloc, desk, messages)?;
-    Ok(replies)
-}
-
 /// Sends messages that are accepted.
 fn send<D: Desk>(alloc: Global, desk: &mut D, messages: &[Stamped]) -> Result<(), Fail>
-    requires { HasRoom D.Stands desk.old 100 }
+    requires { HasRoom D.Stands desk.old 1000 }
     ensures { IfOk result (λ done. HasRoom D.Stands desk.new 0) }
 {
     let replies = replies_of(alloc, desk, messages)?;

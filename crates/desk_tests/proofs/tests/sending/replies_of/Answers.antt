@@ -2,7 +2,7 @@ use Rattle.desk_types.proofs.Common.{[], ◌+◌, ◌∷◌, ◌≤◌, accept, 
 use Rattle.desk_types.proofs.Common.{None, Option, option_map_or, refusal_of, Some}
 use Rattle.desk_laws.proofs.Common.{Refusal, Stamped}
 use Rattle.desk_types.specs.declared.rules.Rules.{Rules}
-use Rattle.book_tests.proofs.tests.replies_of.Goals as goal
+use Rattle.desk_tests.proofs.tests.sending.replies_of.Goals as goal
 
 many-more : (rules : Rules) (H : History) (ms : List Stamped)
     → length (after_commands rules H ms) ≤ length H + length ms

@@ -2,9 +2,11 @@
 
 ghost use Rattle.desk_types.specs.Desk.{HasRoom};
 
+use super::is_refused;
 use super::model::Lists;
-use super::{id, is_refused, replies_of};
-use desk_types::{Command, Desk, Id, Minute, Reply, Rules, Stamped};
+use crate::tests::id;
+use crate::tests::sending::{command, messages, replies_of, stamped};
+use desk_types::{Command, Desk, Id, Reply, Rules, Stamped};
 use feeder_state::StateDesk;
 use line_book::{Cause, Guard, Matter, Note, Stock};
 use rand::rngs::SmallRng;
@@ -81,26 +83,12 @@ fn some_command(alloc: Global, rng: &mut SmallRng) -> Result<Command, Fail> {
         18 => format!(in alloc; "ReelBaked\t{reel}")?,
         _ => format!(in alloc; "SheetDefined\tX\tM1\t1\t1\tQ\t1\tC1")?,
     };
-    let command = Command::read_text(alloc, text.as_bytes())?;
-    Ok(command.ok_or("no command")?)
-}
-
-fn stamped(minute: u64, command: Command) -> Result<Stamped, Fail> {
-    Ok(Stamped {
-        uid: id("u")?,
-        source: id("S")?,
-        minute: Minute::new(minute).ok_or("no minute")?,
-        command,
-    })
+    command(alloc, text.as_str())
 }
 
 /// The setup and then so many messages, some of them hours after the one before.
 fn some_messages(alloc: Global, rng: &mut SmallRng) -> Result<Vec<Stamped>, Fail> {
-    let mut messages = Vec::new(alloc);
-    for line in SETUP.split('\n') {
-        let command = Command::read_text(alloc, line.as_bytes())?;
-        messages.push(stamped(10, command.ok_or("no command")?)?)?;
-    }
+    let mut messages = messages(alloc, SETUP)?;
     let mut minute = 10u64;
     for _ in 0..rng.random_range(5u32..70) {
         let pause = if rng.random_range(0u32..12) == 0 {

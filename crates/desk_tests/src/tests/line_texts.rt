@@ -1,9 +1,8 @@
 //! The texts of a line's own routes.
 
-ghost use Rattle.std.specs.Prelude.{IfOk};
-ghost use Rattle.desk_types.specs.Desk.{HasRoom};
-
-use desk_types::{Command, Desk, Id, Listing, Minute, Replies, Rules, Stamped, Text, run};
+use super::id;
+use super::sending::{messages, replies_of};
+use desk_types::{Desk, Listing, Rules, Stamped, Text};
 use feeder_state::StateDesk;
 use line_answers::{
     Kind, LineFault, Member, Noted, Point, Wanted, book_text, not_found_text, noted_text,
@@ -25,40 +24,6 @@ const STOPPED: &str = "{\"Answer\":\"State\",\"Board\":null,\"Causes\":[\
 {\"Cause\":\"Open\",\"Entry\":1,\"Kind\":\"handling\",\"Reel\":\"R9\",\"Refusal\":\"UnknownReel\",\"Slot\":\"1\"},\
 {\"Cause\":\"AtSlot\",\"Reel\":null,\"Refusal\":\"SlotEmpty\",\"Slot\":\"1\"}],\
 \"Machine\":\"M1\",\"Number\":3,\"State\":\"stop\"}";
-
-fn id(text: &str) -> Result<Id, Fail> {
-    Ok(Id::read(text.as_bytes()).ok_or("no id")?)
-}
-
-fn message(alloc: Global, text: &str) -> Result<Stamped, Fail> {
-    let command = Command::read_text(alloc, text.as_bytes())?;
-    Ok(Stamped {
-        uid: id("u")?,
-        source: id("S")?,
-        minute: Minute::new(10).ok_or("no minute")?,
-        command: command.ok_or("no command")?,
-    })
-}
-
-fn messages(alloc: Global, lines: &str) -> Result<Vec<Stamped>, Fail> {
-    let mut messages = Vec::new(alloc);
-    for line in lines.split('\n') {
-        messages.push(message(alloc, line)?)?;
-    }
-    Ok(messages)
-}
-
-/// Sends messages.
-fn replies_of<D: Desk>(alloc: Global, desk: &mut D, messages: &[Stamped]) -> Result<Replies, Fail>
-    requires { HasRoom D.Stands desk.old 100 }
-    ensures { IfOk result (λ replies. HasRoom D.Stands desk.new 0) }
-{
-    if messages.len() > 100 {
-        return Err("too many messages")?;
-    }
-    let replies = run(alloc, desk, messages)?;
-    Ok(replies)
-}
 
 /// Returns the answer about the machine after the messages, which are accepted.
 fn state_of<D: Desk + Drop>(

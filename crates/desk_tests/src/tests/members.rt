@@ -1,8 +1,8 @@
 //! Findings in a receipt and in installs, and their rows.
 
-use desk_types::{
-    Change, Command, Designator, Detail, Id, Listing, Minute, Purpose, Stamped, Take,
-};
+use super::id;
+use super::sending::{command, stamped};
+use desk_types::{Change, Designator, Detail, Listing, Purpose, Take};
 use line_book::{Matter, Reading};
 use line_entries::{Place, Sender, plain_note, row_of};
 use line_members::{
@@ -23,22 +23,12 @@ const INSTALL: &str = "{\"MessageName\":\"TraceDesk.MaterialsInstalled\",\"Uniqu
 \"MessageBody\":{\"Machine\":\"M1\",\"Board\":\"B1\",\"Designators\":[\"C1\",\"C2\",\"C3\",\"C4\"],
 \"MachineReels\":[\"K2\",null,\"K9\",\"K2\"]}}";
 
-fn id(text: &str) -> Result<Id, Fail> {
-    Ok(Id::read(text.as_bytes()).ok_or("no id")?)
-}
-
 /// Returns the change of an accepted command that takes these pieces.
 fn change(alloc: Global, text: &str, takes: Vec<Take>) -> Result<Change, Fail> {
-    let command = Command::read_text(alloc, text.as_bytes())?;
-    let minute = Minute::new(10).ok_or("no minute")?;
+    let stamped = stamped(10, command(alloc, text)?)?;
     Ok(Change {
-        stamped: Stamped {
-            uid: id("u")?,
-            source: id("S")?,
-            minute,
-            command: command.ok_or("no command")?,
-        },
-        minute,
+        minute: stamped.minute,
+        stamped,
         detail: Detail::Plain,
         takes: Listing::new(takes),
     })
