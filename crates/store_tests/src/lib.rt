@@ -1,4 +1,5 @@
-//! The store's answers and contents at run time, with ample memory, with refused memory, and on a disk that stops.
+//! The store's answers and contents at run time, and those of its book, with ample memory, with refused memory, and on a
+//! disk that stops.
 #![tactic(auto)]
 
 #[cfg(test)]

@@ -1,10 +1,12 @@
-//! A store over files in memory: each allocation refused in turn by `dev/faults/run memory`, the boards of a lot, and a
-//! disk that stops.
+//! A store over files in memory: each allocation refused in turn by `dev/faults/run memory`, the boards of a lot, a disk
+//! that stops, and the book.
 //!
 //! No test drops a connection or a store: it takes the connection back and closes its files. A drop would prove again
 //! how each of their parts is dropped. What is done over a connection is generic in its store, and what came of it is
 //! asserted once it is closed: the proof of an assertion beside a connection of these files takes a minute.
 
+mod books;
+mod both_lists;
 mod sending;
 mod stopping;
 

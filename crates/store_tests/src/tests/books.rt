@@ -1,50 +1,16 @@
 //! Books over files in memory.
-//!
-//! No test drops a connection: it closes its files. What is done over a connection is generic in its
-//! store, and what came of it is asserted once it is closed.
 
-ghost use Rattle.std.specs.Prelude.{IsTrue};
-
+use super::{close, new_files};
 use line_book::BookRow;
 use line_book_store::{
     BookFault, append_entry, append_with_entries, check_book, entries_after, entry_at, has_book,
     make_book, make_with_book,
 };
 use line_tables::{Accepted, make};
-use sqlite::{Alter, Connection, Error, FileStore, Files, Options};
-use sqlite_disk::{Disk, Fuse, Memory};
+use sqlite::{Alter, Connection, Error};
 use std::alloc::{AllocError, Global};
 use std::process::Abort;
 use std::test::Fail;
-
-fn files(alloc: Global) -> Files<Fuse<Memory>>
-    ensures log { IsTrue (⟦<Fuse<Memory> as Disk>⟧.is_usable result.log) }
-    ensures db { IsTrue (⟦<Fuse<Memory> as Disk>⟧.is_usable result.db) }
-{
-    Files {
-        log: Fuse::new(Memory::new(alloc), u64::MAX),
-        db: Fuse::new(Memory::new(alloc), u64::MAX),
-    }
-}
-
-fn new_files(alloc: Global) -> Result<Connection<FileStore<Fuse<Memory>>>, AllocError> {
-    match Connection::open_files(alloc, files(alloc), Options::new(1)) {
-        Ok(conn) => Ok(conn),
-        Err((_error, left)) => {
-            let _ = left.into_files();
-            Err(AllocError)
-        }
-    }
-}
-
-fn close(conn: Connection<FileStore<Fuse<Memory>>>) {
-    match conn.close_files() {
-        Ok(_files) => {}
-        Err((_error, store)) => {
-            let _ = store.close();
-        }
-    }
-}
 
 /// An entry of the kind, about another or none.
 fn entry(

@@ -1,50 +1,16 @@
 //! Both lists over files in memory.
-//!
-//! No test drops a connection or a store: it takes the connection back and closes its files. What is
-//! done over a connection is generic in its store, and what came of it is asserted once it is closed.
 
-ghost use Rattle.std.specs.Prelude.{IsTrue};
-
+use super::{close, new_files};
 use desk_answers::{Answer, Owner};
 use desk_types::{Command, Id, Minute, Stamped};
 use feeder_state::StateDesk;
 use line_book::{BookRow, Note, Reading};
 use line_book_store::BookFault;
 use line_schema::{LineStore, Unavailable, Verdict};
-use sqlite::{Alter, Connection, FileStore, Files, Options};
-use sqlite_disk::{Disk, Fuse, Memory};
+use sqlite::{Alter, Connection};
 use std::alloc::{AllocError, Global};
 use std::process::Abort;
 use std::test::Fail;
-
-fn files(alloc: Global) -> Files<Fuse<Memory>>
-    ensures log { IsTrue (⟦<Fuse<Memory> as Disk>⟧.is_usable result.log) }
-    ensures db { IsTrue (⟦<Fuse<Memory> as Disk>⟧.is_usable result.db) }
-{
-    Files {
-        log: Fuse::new(Memory::new(alloc), u64::MAX),
-        db: Fuse::new(Memory::new(alloc), u64::MAX),
-    }
-}
-
-fn new_files(alloc: Global) -> Result<Connection<FileStore<Fuse<Memory>>>, AllocError> {
-    match Connection::open_files(alloc, files(alloc), Options::new(1)) {
-        Ok(conn) => Ok(conn),
-        Err((_error, left)) => {
-            let _ = left.into_files();
-            Err(AllocError)
-        }
-    }
-}
-
-fn close(conn: Connection<FileStore<Fuse<Memory>>>) {
-    match conn.close_files() {
-        Ok(_files) => {}
-        Err((_error, store)) => {
-            let _ = store.close();
-        }
-    }
-}
 
 fn message(alloc: Global, number: u32, text: &str) -> Option<Stamped> {
     let uid = format!(in alloc; "u{number}").ok()?;

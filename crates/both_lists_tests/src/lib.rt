@@ -1,5 +1,0 @@
-//! Stores with a book in their file, at run time.
-#![tactic(auto)]
-
-#[cfg(test)]
-mod tests;
