@@ -4,13 +4,14 @@ desk.
 from __future__ import annotations
 
 import pathlib
+from typing import Any
 
-from tracedesk_ops import around, attributes, heads, places, untraced
+from tracedesk_ops import around, attributes, book, heads, places, untraced
 from tracedesk_ops.line import LineFolder
 
 Path = pathlib.Path
 
-BOOKS = (untraced.BOOK, attributes.BOOK)
+BOOKS: tuple[book.Form[Any], ...] = (untraced.BOOK, attributes.BOOK)
 
 
 def heads_of(archive: Path) -> list[str]:

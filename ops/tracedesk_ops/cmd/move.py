@@ -94,9 +94,10 @@ class Move(NamedTuple):
     def arrives(self) -> list[str]:
         """What the new desk is told, once it knows the part."""
         card, reel = self.card, {"Reel": self.called}
-        label = {"LabelMinutes": self.label} if card.level == "6" else {}
-        body = {**reel, "PartNumber": card.part, "Lot": card.lot, "Level": card.level}
-        body |= {"Quantity": card.remaining, **label}
+        body: dict[str, Any] = {**reel, "PartNumber": card.part, "Lot": card.lot}
+        body |= {"Level": card.level, "Quantity": card.remaining}
+        if card.level == "6":
+            body["LabelMinutes"] = self.label
         said: list[tuple[int, str, dict[str, Any]]] = [(self.begin, "ReelReceived", body)]
         if card.level == "6" and card.minutes_left != "unbaked":
             said.append((self.begin, "ReelBaked", reel))
