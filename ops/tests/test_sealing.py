@@ -1,4 +1,4 @@
-"""A seal of a desk that goes on: the copy is one moment of it, and has each acknowledged command."""
+"""A seal of a desk that goes on: the copy is one moment, with each acknowledged command."""
 from __future__ import annotations
 
 import contextlib

@@ -46,9 +46,9 @@ def set_ups() -> list[dict[str, str]]:
 
 
 def set_up(reader: argparse.ArgumentParser) -> None:
-    """Takes the words of a tool from the line that --line says, by its name or its folder, else from
-    the one that is set up on this machine; what the command line says itself counts. Also without a
-    set-up file there are `db` and `archive`, the desk and the sealed files.
+    """Takes the words of a tool from the line that --line says, by its name or its folder, else
+    from the one that is set up on this machine; what the command line says itself counts. Also
+    without a set-up file there are `db` and `archive`, the desk and the sealed files.
     """
     reader.add_argument(
         "--line", metavar="LINE", help="the line's name or folder, where several are set up"
