@@ -136,6 +136,7 @@ fn a_refusal_is_known(rt: HostRuntime) -> Result<(), Fail> {
     guard.noted(&entry)?;
     assert!(rt; guard.is_known(&entry));
     assert!(rt; guard.undecided().is_empty());
+    assert!(rt; guard.open_notes() == [entry].as_slice());
     Ok(())
 }
 

@@ -184,7 +184,7 @@ impl Lists {
         })
     }
 
-    fn is_working(&self, machine: &Id) -> bool {
+    pub fn is_working(&self, machine: &Id) -> bool {
         let mut is_working = false;
         for it in self.commands.as_slice() {
             match &it.command {

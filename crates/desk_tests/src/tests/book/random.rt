@@ -301,7 +301,8 @@ impl Both {
         }
         Ok(
             causes.as_slice() == searched.as_slice()
-                && self.guard.undecided() == undecided.as_slice(),
+                && self.guard.undecided() == undecided.as_slice()
+                && self.guard.board_on(machine).is_some() == self.lists.is_working(machine),
         )
     }
 }
