@@ -1,5 +1,7 @@
 //! Both lists over files in memory.
 
+mod stopping;
+
 use super::{close, new_files};
 use desk_answers::{Answer, Owner};
 use desk_types::{Command, Id, Minute, Stamped};
