@@ -195,7 +195,6 @@ PR
 150\tReelSealed\tK1
 200\tMaterialsLoaded\tM\t1\tK2
 100\tClockSet
-111\tClockSet
 
 PR
 0\t1\t10\t2\t20\t5\tB1\tC1\tK1\tK2\tK3\tL1\tM\tP\tR1
