@@ -139,7 +139,7 @@ def test_a_line_without_a_desk_is_never_whole(world: World, folder: pathlib.Path
 def test_a_folder_of_two_lines_is_refused(world: World) -> None:
     one, two = (line.recall_words() for line in world.lines)
     two[2] = one[2]
-    recall("lot", lot_of(world), *one, *two).expect(2, "have the same folder")
+    recall("lot", lot_of(world), *one, *two).expect(2, "have the same name or folder")
 
 
 def test_an_archive_on_two_lines_is_named(world: World, folder: pathlib.Path) -> None:
