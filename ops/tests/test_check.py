@@ -127,7 +127,10 @@ def test_log_that_is_a_link_or_a_folder(checked: Checked, folder: pathlib.Path) 
 
 @pytest.fixture
 def users(checked: Checked, folder: pathlib.Path) -> Checked:
-    """A file of root's in a folder of the service's user."""
+    """A file of root's in a folder of the service's user, who can run the program, too: that of a
+    repository may lie in a folder that is root's alone.
+    """
+    checked.program = pathlib.Path(shutil.copy(checked.program, folder / "tracedesk"))
     shutil.chown(checked.file.parent, "nobody")
     checked.file.chmod(0o600)
     return checked
