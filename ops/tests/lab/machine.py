@@ -61,6 +61,7 @@ mkdir -p dev/pts dev/shm; mount -t tmpfs shm dev/shm
 mount -t devpts pts dev/pts -o newinstance,ptmxmode=0666
 ln -s pts/ptmx dev/ptmx; ln -s /proc/self/fd dev/fd
 hostname plant; pivot_root . mnt; umount -l /mnt
+mount --make-rshared /  # as on a machine: else units get no credentials
 exec env -i container=plant PATH=/usr/sbin:/usr/bin:/sbin:/bin /lib/systemd/systemd
 """
 JOIN = 'echo 0 > {}/cgroup.procs; exec unshare -m -p -n -u -i -C --fork sh -c "$1" boot "$2" "$3"'
