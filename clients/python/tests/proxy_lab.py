@@ -1,5 +1,5 @@
-"""What tests of the sender share: a desk, a proxy in front of it that fails, and runs of the sender
-with two files.
+"""What tests of the sender share: a desk, a proxy in front of it that fails, and runs of the
+sender.
 
 Each step of the proxy's script is called with the request that is at hand.
 """
@@ -14,9 +14,10 @@ import ssl
 import subprocess
 import sys
 import time
-from typing import Any, Callable, Iterable, Iterator, NamedTuple
+from typing import Any, Callable, Iterable, Iterator
 
 import at_port
+import killed
 from at_port import PATIENCE, SENDER
 from tracedesk_dev.ports import free_port
 
@@ -25,16 +26,8 @@ def serving(
     program: pathlib.Path, folder: pathlib.Path, port: int, connections: int = 1000
 ) -> list[Any]:
     """The words of a desk that is served."""
-    return [
-        program,
-        "serve",
-        "--db",
-        folder / "desk",
-        "--port",
-        str(port),
-        "--connections",
-        str(connections),
-    ]
+    where = ["--db", folder / "desk", "--port", str(port)]
+    return [program, "serve", *where, "--connections", str(connections)]
 
 
 @contextlib.contextmanager
@@ -58,47 +51,29 @@ def served(program: pathlib.Path, folder: pathlib.Path) -> Iterator[int]:
         desk.wait()
 
 
-def message(word: str, number: int, **body: Any) -> bytes:
-    return at_port.text(word, f"m-{number}", **body)
+def parts(count: int) -> bytes:
+    """Messages for a sender."""
+    its = (at_port.text("PartDefined", f"m-{n}", PartNumber=f"P{n}") for n in range(count))
+    return b"".join(it + b"\n" for it in its)
 
 
-def parts(folder: pathlib.Path, count: int) -> bytes:
-    """Writes messages for a client, and gives them."""
-    given = b"".join(message("PartDefined", n, PartNumber=f"P{n}") + b"\n" for n in range(count))
-    (folder / "messages").write_bytes(given)
-    return given
-
-
-class Sent(NamedTuple):
-    """A run of the sender: its status, how many answers there are then, and what it said."""
-
-    status: int
-    answers: int
-    said: str
-
-
-def answered(folder: pathlib.Path) -> int:
-    with contextlib.suppress(FileNotFoundError):
-        return (folder / "answers").read_bytes().count(b"\n")
-    return 0
-
-
-def sent(folder: pathlib.Path, url: str, *words: Any, **how: Any) -> Sent:
-    """Runs the sender with the folder's two files."""
-    done = subprocess.run(
-        [sys.executable, SENDER, "--url", url, *words, folder / "messages", folder / "answers"],
-        capture_output=True,
-        text=True,
-        timeout=PATIENCE,
-        **how,
+def sent(
+    folder: pathlib.Path, url: str, *words: Any, given: bytes = b"", **how: Any
+) -> "subprocess.CompletedProcess[bytes]":
+    """Puts messages into the folder's spool, and sends what waits there."""
+    head = [sys.executable, SENDER, "--url", url, "--spool", folder / "spool", "--follow", "-"]
+    return subprocess.run(
+        [*head, *words], input=given, capture_output=True, timeout=PATIENCE, **how
     )
-    return Sent(done.returncode, answered(folder), done.stderr)
 
 
-def expect(got: Sent, status: int, answers: int, said: str = "") -> None:
-    """Compares how a run ended, and looks for words in what it said."""
-    assert (got.status, got.answers) == (status, answers), got.said
-    assert said in got.said
+def expect(
+    folder: pathlib.Path, url: str, *words: Any, ends: tuple[int, int], said: str = "", **how: Any
+) -> None:
+    """Runs the sender: its status, how many answers there are then, and words in what it said."""
+    done = sent(folder, url, *words, **how)
+    assert (done.returncode, len(killed.answers_in(folder / "spool"))) == ends, done.stderr.decode()
+    assert said in done.stderr.decode()
 
 
 class Proxy(at_port.Server):

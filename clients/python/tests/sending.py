@@ -82,7 +82,3 @@ class Lab:
         while not call():
             assert time.monotonic() < end
             time.sleep(0.05)
-
-    def two_files(self, *words: Any) -> "subprocess.CompletedProcess[bytes]":
-        head = [sys.executable, str(SENDER), "--url", self.url]
-        return subprocess.run([*head, *map(str, words)], capture_output=True, timeout=PATIENCE)

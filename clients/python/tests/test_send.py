@@ -1,6 +1,5 @@
 """tracedesk-send with a spool, before something that answers as a desk does."""
 import contextlib
-import fcntl
 import json
 import pathlib
 import re
@@ -300,30 +299,6 @@ def test_a_name_that_this_spool_used_before_is_no_archive(lab: Lab) -> None:
         len(lab.server.script),
         len(lab.names("aside")),
     ) == (1, 1, 1), done.stderr
-
-
-def test_two_files_and_an_archive(lab: Lab) -> None:
-    messages, known = lab.room / "messages", lab.room / "answers"
-    messages.write_bytes(line("u1") + b"\n")
-    lab.server.script = [(503, {}, {"Answer": "Unavailable"})] * 99
-    assert lab.two_files("--patience", "0.1", messages, known).returncode == 3
-    reused = b'{"Answer":"Refused","Number":7,"Refusal":"IdReused","UniqueID":"u1"}'
-    lab.server.script = [
-        (409, {}, json.loads(reused)),
-        (200, {}, {"Answer": "Accepted", "Number": 7, "UniqueID": "u1"}),
-    ]
-    done = lab.two_files("--stop-at-refusal", messages, known)
-    assert (done.returncode, known.read_bytes()) == (0, reused + b"\n"), done.stderr
-
-
-def test_one_sender_has_a_file_of_answers(lab: Lab) -> None:
-    messages, known = lab.room / "messages", lab.room / "answers"
-    messages.write_bytes(line("u1") + b"\n")
-    with open(known, "ab") as file:
-        fcntl.flock(file, fcntl.LOCK_EX)
-        done = lab.two_files(messages, known)
-    assert (done.returncode, lab.uids()) == (2, [])
-    assert b"another sender has it" in done.stderr
 
 
 def test_sent_messages_are_sent_again(lab: Lab) -> None:

@@ -11,7 +11,7 @@ from typing import Any
 
 import pytest
 from at_port import PATIENCE
-from proxy_lab import Proxy, expect, parts, passed_on, says, sent, served
+from proxy_lab import Proxy, expect, parts, passed_on, says, served
 from station_site import certificate
 from tracedesk_dev import ROOT
 
@@ -21,7 +21,6 @@ def test_tls_is_spoken(program: pathlib.Path, tmp_path: pathlib.Path) -> None:
     """With a password or a certificate; and with what is wrong of them nothing is sent."""
     for name in ("server", "m2", "other"):
         certificate(tmp_path, name, name)
-    parts(tmp_path, 4)
     (tmp_path / "password").write_text("secret: 1\n")
     context = ssl.create_default_context(ssl.Purpose.CLIENT_AUTH, cafile=tmp_path / "m2.crt")
     context.verify_mode = ssl.CERT_OPTIONAL
@@ -34,16 +33,16 @@ def test_tls_is_spoken(program: pathlib.Path, tmp_path: pathlib.Path) -> None:
         m2 = ["--cert", tmp_path / "m2.crt", "--key", tmp_path / "m2.key"]
         by_environment = [*ca, "--user", "m1"]
         right, wrong = ({"TRACEDESK_PASSWORD": it} for it in ("secret: 1", "other"))
-        expect(sent(tmp_path, url, *ca), 4, 0, "log-in")
-        expect(sent(tmp_path, url, *m1), 4, 0, "certificate")
-        expect(sent(tmp_path, proxy.https(), *ca, *m1), 4, 0, "certificate")
-        expect(sent(tmp_path, url, *by_environment, env=wrong), 4, 0, "log-in")
-        expect(sent(tmp_path, url, *ca, *m1), 4, 1, "log-in")
-        expect(sent(tmp_path, url, *by_environment, env=right), 0, 4)
-        parts(tmp_path, 7)
-        expect(sent(tmp_path, url, *ca, *m2), 0, 7)
-        expect(sent(tmp_path, url, "--ca", tmp_path / "none"), 2, 7)
-        expect(sent(tmp_path, f"http://127.0.0.1:{port}", *m1), 2, 7, "in the clear")
+        once = ["--patience", "1"]
+        expect(tmp_path, url, *once, *ca, ends=(4, 0), said="log-in", given=parts(4))
+        expect(tmp_path, url, *once, *m1, ends=(4, 0), said="certificate")
+        expect(tmp_path, proxy.https(), *once, *ca, *m1, ends=(4, 0), said="certificate")
+        expect(tmp_path, url, *once, *by_environment, ends=(4, 0), said="log-in", env=wrong)
+        expect(tmp_path, url, *once, *ca, *m1, ends=(4, 1), said="log-in")
+        expect(tmp_path, url, *by_environment, ends=(0, 4), env=right)
+        expect(tmp_path, url, *ca, *m2, ends=(0, 7), given=parts(3))
+        expect(tmp_path, url, "--ca", tmp_path / "none", ends=(2, 7))
+        expect(tmp_path, f"http://127.0.0.1:{port}", *m1, ends=(2, 7), said="in the clear")
 
 
 def example(*words: Any, boards: str) -> "subprocess.CompletedProcess[str]":

@@ -137,13 +137,6 @@ def test_a_run_that_stops_sends_no_report_again(lab: UntracedLab) -> None:
     lab.send("--put", "-", given=work("bad1") + b"\n" + sending.line("u2"))
     assert (lab.send("--stop-at-refusal").returncode, lab.names()) == (1, ["000000000002"])
     assert (lab.send("--stop-at-refusal").returncode, lab.uids()) == (0, ["bad1", "u2"])
-    messages, known = lab.room / "messages", lab.room / "answers"
-    messages.write_bytes(work("bad3") + b"\n" + sending.line("u4"))
-    assert [lab.two_files("--stop-at-refusal", messages, known).returncode for _ in range(2)] == [
-        1,
-        0,
-    ]
-    assert lab.uids()[2:] == ["bad3", "u4"]
 
 
 def test_after_a_restore_nothing_that_was_refused_is_sent(lab: UntracedLab) -> None:
@@ -158,26 +151,6 @@ def test_after_a_restore_nothing_that_was_refused_is_sent(lab: UntracedLab) -> N
         lab.send().returncode,
         lab.uids(),
     ) == (0, 0, ["u1", "u3"])
-
-
-def test_two_files_keep_what_a_spool_keeps(lab: UntracedLab) -> None:
-    """A refused report, and a reel that the machine names otherwise. A run that was killed between
-    an answer in the file and in the spool has it there once, after the next run.
-    """
-    messages, known = lab.room / "messages", lab.room / "answers"
-    install = work("u2", "MaterialsInstalled", Designators=["C1"], MachineReels=["K-9"])
-    messages.write_bytes(b"\n".join([work("bad1"), install, sending.line("u3")]))
-    reels = {"Answer": "Accepted", "Number": 2, "Reels": ["K-1"], "UniqueID": "u2"}
-    refused = {"Answer": "Refused", "At": "P", "Refusal": "PartExists", "UniqueID": "bad1"}
-    lab.server.script = [(409, {}, refused), (200, {}, reels)]
-    assert lab.two_files(messages, known).returncode == 0
-    its, text = spool.Spool(f"{known}.spool"), known.read_bytes()
-    assert its.names("aside") == ["000000000001"]
-    its.change("UPDATE message SET state = 'waiting', answer = NULL WHERE n = 3")
-    its.close()
-    assert lab.two_files("--untraced", lab.inbox, messages, known).returncode == 0
-    assert (lab.uids(), known.read_bytes()) == (["bad1", "u2", "u3", "u3"], text)
-    assert sorted(it["Kind"] for it in lab.records()) == ["differs", "refused"]
 
 
 UNREADABLE = {

@@ -1,8 +1,7 @@
 """Sends messages to a desk, one after the other, until each has its answer: none is lost and none
 acts twice.
 
-usage: tracedesk-send [--url URL] [WHO] [HOW] MESSAGES ANSWERS
-       tracedesk-send [--url URL] [WHO] [HOW] --spool FILE [--follow FOLDER | --follow - | --stay]
+usage: tracedesk-send [--url URL] [WHO] [HOW] --spool FILE [--follow FOLDER | --follow - | --stay]
        tracedesk-send --spool FILE --put MESSAGES | --put -
        tracedesk-send --spool FILE --list STATE | --show NAME .. | --show STATE
        tracedesk-send --spool FILE --again all | --again NAME .. | --again TIME | --drop NAME ..
@@ -11,7 +10,8 @@ usage: tracedesk-send [--url URL] [WHO] [HOW] MESSAGES ANSWERS
        tracedesk-send --validate MESSAGES | --version
 
 examples:
-  tracedesk-send first.jsonl first.answers
+  tracedesk-send --spool m1 --follow - < first.jsonl
+  tracedesk-send --spool m1 --list sent
   tracedesk-send --url https://desk.plant --ca server.crt --user m1 --password-file m1.password \\
       --spool m1 --follow /m1/out
   machine | tracedesk-send --url https://desk.plant --ca server.crt --cert m2.crt --key m2.key \\
@@ -26,13 +26,9 @@ examples:
       --check
   tracedesk-send --validate first.jsonl
 
-With two files it posts the lines of MESSAGES, each with the UniqueID in it, and adds the desk's
-answers to ANSWERS. It keeps both in a spool, ANSWERS.spool. Started again, it goes on by that, and
-writes ANSWERS anew from it.
-
-With --spool it sends what waits in that file, and each message is on disk there before it is sent.
-Started again after whatever ended it, it goes on where it was. One sender has a spool at a time;
-any number may put messages in. The file is on a disk of this computer.
+It sends what waits in the spool FILE, and each message is on disk there before it is sent. Started
+again after whatever ended it, it goes on where it was. One sender has a spool at a time; any number
+may put messages in. The file is on a disk of this computer.
 --follow FOLDER  takes in the files *.json and *.jsonl of FOLDER, by their names, a message a line,
                  and deletes each once it is in the spool. Write a file under another ending and
                  rename it, so that it appears whole. A name may be used again at any time
@@ -82,35 +78,32 @@ certificate that isn't valid yet or any more. Then the same bytes are sent again
 grows, or that Retry-After asks for, ten minutes at most: a message that was accepted the first time
 gets its first answer and changes nothing. An answer is a desk's text for a message, with status
 200, 202, 400, 409 or 422. Anything else is for a person to mend: a log-in that is refused, a
-certificate that is another's, an answer that is no desk's. With two files it ends the run. With a
-spool it is reported, on standard error and in the status, and tried again after 30 seconds, then
-after twice as long each time, ten minutes at most.
+certificate that is another's, an answer that is no desk's. It is reported, on standard error and in
+the status, and tried again after 30 seconds, then after twice as long each time, ten minutes at
+most.
 
 A message that was accepted, whose answer was lost, and whose desk was then begun anew, is refused
 there: IdReused. The desk is asked whether its archive has that message. If it has, the message is
 done, and a line on standard error says so.
 
 A message that is refused, faulty, too long, or Ignored though its name begins with TraceDesk. was
-not taken. It is set aside in the spool, with the reason, and the next one is sent. With two files
-its answer is in ANSWERS.
+not taken. It is set aside in the spool, with the reason, and the next one is sent.
 --stop-at-refusal  ends the run at such a message, on standard error. A request stays the next one
                    that is sent, so that it is sent again once its fault is mended. A report of work
-                   is done with: it is set aside, or its answer is kept
---patience SECONDS  for one message: 600, and with a spool no end. A line after ten seconds, and
-                    then each minute, says that
-                   there is no answer, and why
+                   is done with: it is set aside
+--patience SECONDS  for one message, else without an end. A line after ten seconds, and then each
+                   minute, says that there is no answer, and why
 The password is in FILE, or in the environment as TRACEDESK_PASSWORD.
 
 A full disk, and a file that can't be read, are reported and waited out. Standard output may be
 closed: nothing more is printed.
 
 Exit status: 0 every message has its answer, or the check found no fault; 1 stopped at a message
-that was not taken; or some are set aside in this run, or with two files were Ignored though their
-names begin with TraceDesk.; or the check found a fault; 2 bad command line, or a file or a spool
-that can't be used; 3 given up: no answer in all the time that was given; 4 a message can't be sent
-so, and standard error says why; 5 an error of this program, which standard error has; 6 a report of
-work is not sent again: a person has to decide. With 3, 4 and 5 what has no answer is sent by the
-next run.
+that was not taken, or some are set aside in this run, or the check found a fault; 2 bad command
+line, or a file or a spool that can't be used; 3 given up: no answer in all the time that was given;
+4 a message can't be sent so, and standard error says why; 5 an error of this program, which
+standard error has; 6 a report of work is not sent again: a person has to decide. With 3, 4 and 5
+what has no answer is sent by the next run.
 """
 from __future__ import annotations
 
@@ -123,7 +116,7 @@ import sys
 from typing import List, Optional
 
 from . import __version__, by_hand, command, desk, disk, interlock, scans, sender, spool
-from . import two_files, untraced, validate
+from . import untraced, validate
 from .console import NAME, ended, say, tell
 
 NAMED = re.compile("[A-Za-z0-9_-][A-Za-z0-9._-]{0,63}")
@@ -133,7 +126,7 @@ NAMED = re.compile("[A-Za-z0-9_-][A-Za-z0-9._-]{0,63}")
 
 
 def name_of(asked: argparse.Namespace) -> str:
-    """The sender's name in records; empty where it is that of its spool."""
+    """The sender's name in records; empty if it is that of its spool."""
     name = str(asked.name or asked.user or "")
     return name if NAMED.fullmatch(name) else ""
 
@@ -267,7 +260,6 @@ def reader_of_words() -> argparse.ArgumentParser:
     reader.add_argument("--silence", type=float, default=interlock.SILENCE)
     reader.add_argument("--every", type=float, default=interlock.EVERY)
     reader.add_argument("--version", action="version", version=f"tracedesk-send {__version__}")
-    reader.add_argument("files", nargs="*", metavar="MESSAGES ANSWERS")
     return reader
 
 
@@ -275,11 +267,8 @@ def words() -> argparse.Namespace:
     """What the command line says."""
     reader = reader_of_words()
     asked = reader.parse_args()
-    if len(asked.files) != (0 if asked.spool or asked.check or asked.validate else 2):
-        reader.error("name --spool FILE, or two files: MESSAGES and ANSWERS")
-    of_a_spool = "follow stay put again list show drop release interlock".split()
-    if not asked.spool and any(getattr(asked, it) for it in of_a_spool):
-        reader.error(", ".join(f"--{it}" for it in of_a_spool) + " want --spool FILE")
+    if not (asked.spool or asked.check or asked.validate):
+        reader.error("name --spool FILE, where messages wait; --check and --validate want none")
     if bool(asked.interlock) != bool(asked.machine):
         reader.error("--interlock COMMAND wants --machine NAME, of each machine that it stops")
     if asked.scans and not asked.interlock:
@@ -323,16 +312,13 @@ def desk_of(
             else os.environ["TRACEDESK_PASSWORD"]
         )
         log_in = asked.user, password
-    patience = (
-        asked.patience if asked.patience is not None else None if asked.spool else desk.PATIENCE
-    )
     return desk.Desk(
         url or asked.url,
         trust,
         log_in,
-        patience=patience,
+        patience=asked.patience,
         timeout=timeout or asked.timeout,
-        waits=bool(asked.spool),
+        waits=True,
         tell=tell,
     )
 
@@ -354,9 +340,7 @@ def run(asked: argparse.Namespace) -> int:
         return check(asked)
     to = desk_of(asked)
     try:
-        if asked.spool:
-            return run_spool(asked, to)
-        return two_files.run(asked, to, *places_of(asked), name=name_of(asked))
+        return run_spool(asked, to)
     finally:
         to.close()
         tell(f"{to.sent_again} times sent again")

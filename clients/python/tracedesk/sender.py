@@ -53,8 +53,6 @@ class Sender:
         self.command, self.asker = command, asking.Asker(self.interlock, desk)
         self.line = untraced.Line(spool, desk, self.interlock, inbox, status, tell)
         self.sent = self.aside = 0
-        # takes each answer before it is kept
-        self.answered: Callable[[answers.Answer], None] = lambda answer: None
         self.news, self.dropped, self.next_news = threading.Event(), 0, 0.0
 
     def answer_to(self, name: str) -> Tuple[answers.Answer, Dict[str, Any]]:
@@ -145,7 +143,6 @@ class Sender:
     def keep(self, name: str, answer: answers.Answer, made: List[Tuple[str, bytes]]) -> None:
         """Keeps an answer, and what follows of it."""
         at = records.utc()
-        patiently(lambda: self.answered(answer), self.tell)
         patiently(lambda: self.spool.done(name, answer, at, made), self.tell)
         self.sent += 1
         self.look_at_what_is_kept()

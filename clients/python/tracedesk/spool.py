@@ -192,17 +192,6 @@ class Spool:
             )
         return spelled(added.lastrowid or 0)
 
-    def refill(self, texts: Iterable[bytes]) -> None:
-        """Has these messages wait in place of those that do. The first one may have been tried."""
-        with self.whole():
-            before = self.rows(
-                "SELECT text, tried FROM message WHERE state = 'waiting' ORDER BY n LIMIT 1"
-            )
-            self.change("DELETE FROM message WHERE state = 'waiting'")
-            for text in texts:
-                self.put(text, before == [(text, 1)])
-                before = []
-
     def take_file(self, path: pathlib.Path) -> int:
         """Takes the lines of a file in, each once, whatever ends it, and deletes the file; how many
         they are. Nobody else has a file of such a path.
