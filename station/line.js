@@ -5,11 +5,12 @@ import * as clock from "./clock.js";
 import { button, el, put, table, withoutScrollbars } from "./dom.js";
 import { dayAnd, productText, sheetText } from "./known.js";
 import { lifeText, piecesText } from "./life.js";
+import { closingText } from "./machine_lines.js";
 import { isFresh } from "./machines.js";
 import { said } from "./say.js";
 import { TEXTS } from "./words.js";
 
-const URGENT = ["EXPIRED", "EMPTY", "LOW", "EXPIRES"]; // a person has to come
+const URGENT = ["STOPS", "EXPIRED", "EMPTY", "LOW", "EXPIRES"]; // a person has to come
 const COUNTED = [...URGENT, "OTHER", "OFF", "NOSHEET"];
 const MOST_TILES = 10;
 const MOST_ABOVE = 4; // of what needs a person: above the slots, and above the overview, which
@@ -82,7 +83,7 @@ export class LineScreen {
     const lines =
       model.lines.map((line) => ({
                         line,
-                        rows: model.rows(line),
+                        rows: this.rows(line),
                         head: [...productText(model, line.machine), sheetText(line)],
                         notes: this.notes(line),
                       }));
@@ -98,6 +99,18 @@ export class LineScreen {
     put(this.overview, ...(shown.length ? [] : lines.map((it) => this.machineTile(it))));
     put(this.machines, ...shown.map((it) => this.machine(it)));
     this.fit();
+  }
+
+  /** A machine's rows; that of the slot that stops it has the scan that lets it go on. */
+  rows(line) {
+    const { model } = this.station;
+    const it = model.machines.states.get(line.machine);
+    const isStopped = it?.state === "stop" && isFresh(it, clock.now());
+    const stops = (row) =>
+      isStopped && row.slot === it.slot
+        ? { ...row, stops: closingText(it, model.loadFor(it)), states: ["STOPS", ...row.states] }
+        : row;
+    return model.rows(line).map(stops);
   }
 
   /**
@@ -220,12 +233,14 @@ export class LineScreen {
   }
 
   /** A slot that needs a person: where, what is wrong, and with which reel. */
-  tile({ part, front, worst, boards, minutes, states }, where) {
+  tile({ part, front, worst, boards, minutes, states, stops }, where) {
     const texts = TEXTS.line.urgent;
     const isFront = worst === front || worst?.reel === front?.reel;
     const values = { boards, life: worst ? lifeText(worst.minutes_left) : "" };
     const textOf = (it) =>
-      texts[it === "EXPIRED" && !isFront ? "BEHIND" : it] ?? TEXTS.line.states[it];
+      it === "STOPS"
+        ? stops
+        : texts[it === "EXPIRED" && !isFront ? "BEHIND" : it] ?? TEXTS.line.states[it];
     const words = states.filter((it) => it !== "OTHER").map((it) => said(textOf(it), values));
     const soon =
       minutes !== null && states.includes("LOW") ? [said(texts.soon, { minutes })] : [];
@@ -324,7 +339,7 @@ export class LineScreen {
     return el("section", { class: "machine" }, wrong, made);
   }
 
-  cells({ slot, part, front, behind, pieces, boards, worst, others, states }) {
+  cells({ slot, part, front, behind, pieces, boards, worst, others, states, stops }) {
     const texts = TEXTS.line;
     const waits = behind
                     .map(
@@ -332,7 +347,7 @@ export class LineScreen {
                     )
                     .join(", ");
     const words =
-      states.length ? states.map((it) => texts.states[it]).join(" · ") : texts.states.OK;
+      states.length ? states.map((it) => texts.states[it] ?? stops).join(" · ") : texts.states.OK;
     const life = front ? lifeText(worst.minutes_left) : "";
     return [
       [slot, "slot"],

@@ -29,6 +29,14 @@ function refusalText({ refusal, reel, board }) {
   return said(title, { at: reel ?? board ?? "" });
 }
 
+/** The scan by which a slot lets its machine go on. */
+export function closingText({ cause }, load) {
+  const texts = TEXTS.line.stops;
+  const byCause = { differs: texts.there, slot: texts.splice };
+  const text = load.isSplice ? byCause[cause] ?? texts.change : texts.load;
+  return said(text, { load: loadText(load) });
+}
+
 /** Why a machine is stopped. */
 function whyText(it, load) {
   const { cause, slot, reel, board, reason } = it;

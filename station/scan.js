@@ -28,12 +28,17 @@ export const WORDS = {
 };
 const isOfReceive = (action) => OF_RECEIVE.includes(action) || /^[0-9]$/.test(action);
 const FRESH = 3_000; // milliseconds: what is known of a slot is asked for again when it is older
-const CARD_WAIT = 4_000; // milliseconds that a count waits for the reel's card
+const WAIT = 4_000; // milliseconds that a count waits for the reel's card, and a load for the slots
 const BOUNCE = 1_000; // milliseconds: the same action code within them was read twice
 const RISE = {
   pieces: 100,
   part: 0.1,
 }; // so much a count may be above the desk's, unasked
+
+/** What was asked for, or null if it takes too long. */
+function inTime(asked) {
+  return Promise.race([asked, new Promise((resolve) => setTimeout(resolve, WAIT, null))]);
+}
 
 export class Scan {
   /**
@@ -156,9 +161,7 @@ export class Scan {
   slotHeld(code) {
     this.clear();
     this.slot = { machine: code.machine, slot: code.slot };
-    const line = this.station.model.line(code.machine);
-    const known = this.station.model.state;
-    if (!line.slots || !known.ok || performance.now() - known.at > FRESH) {
+    if (!this.isKnown(code.machine)) {
       this.station.model.refresh(code.machine);
     }
   }
@@ -192,30 +195,45 @@ export class Scan {
     }
   }
 
+  /** Whether the page knows the slots of a machine as they were a moment ago. */
+  isKnown(machine) {
+    const { state } = this.station.model;
+    const { slots } = this.station.model.line(machine);
+    return Boolean(slots) && state.ok && performance.now() - state.at <= FRESH;
+  }
+
   /**
-   * A reel for a slot. One that is on that slot already, by what the page knows, is verified: the
-   * desk is asked for its slots anew, and nothing is sent.
+   * A reel for a slot. One that is on that slot already is verified, and nothing is sent. The desk
+   * is asked for its slots anew if the page has the reel there, or doesn't know the slots now.
    */
   async mounted({ machine, slot, reel }) {
     const on = { machine, slot };
-    const { model, verdict } = this.station;
-    if (!model.isOn(machine, slot, reel) || this.about(on).length) {
+    const { model } = this.station;
+    const isOn = model.isOn(machine, slot, reel);
+    if (this.about(on).length || (!isOn && this.isKnown(machine))) {
       return this.act(this.isLive(on) ? "SPLICE" : "LOAD", { ...on, reel });
     }
     this.clear();
-    const rows = await model.slotsNow(machine);
+    const asked = model.slotsNow(machine);
+    const rows = await (isOn ? asked : inTime(asked));
     const row = rows?.find((it) => it.slot === slot && it.reel === reel);
-    if (rows && !row) {
-      return this.act(rows.some((it) => it.slot === slot) ? "SPLICE" : "LOAD", { ...on, reel });
+    if (!row && (rows || !isOn)) {
+      const isLive = rows?.some((it) => it.slot === slot) ?? this.isLive(on);
+      return this.act(isLive ? "SPLICE" : "LOAD", { ...on, reel });
     }
-    const { part } = model.slot(machine, slot);
-    const values = { ...on, reel, own: row?.part, wanted: part };
-    if (!row || ["0", "unbaked"].includes(row.minutes_left) || (part && part !== row.part)) {
-      const { verify } = TEXTS.fault;
-      const text = !row ? verify.noAnswer : part && part !== row.part ? verify.part : verify.life;
-      this.station.fault(said(text, values));
+    return this.verify(row, { ...on, reel });
+  }
+
+  /** Says whether a reel on its slot may be there; without a row the desk gave no answer. */
+  verify(row, values) {
+    const { verify } = TEXTS.fault;
+    const { part } = this.station.model.slot(values.machine, values.slot);
+    const isOther = row && part && part !== row.part;
+    if (!row || isOther || ["0", "unbaked"].includes(row.minutes_left)) {
+      const text = !row ? verify.noAnswer : isOther ? verify.part : verify.life;
+      this.station.fault(said(text, { ...values, own: row?.part, wanted: part }));
     } else {
-      verdict.verified({ ...row, machine });
+      this.station.verdict.verified({ ...row, machine: values.machine });
     }
     return null;
   }
@@ -307,9 +325,7 @@ export class Scan {
       ));
       return;
     }
-    const had = action === "COUNT"
-      ? await Promise.race([card, new Promise((resolve) => setTimeout(resolve, CARD_WAIT))])
-      : null;
+    const had = action === "COUNT" ? await inTime(card) : null;
     const left = Number(had?.remaining ?? 0);
     if (this.asking !== asking) {
       return; // somebody cancelled meanwhile

@@ -88,15 +88,17 @@ export const TEXTS = {
     causes: {
       idle: "keine Baugruppe gestartet",
       waiting: "wartet auf die Antwort des Desks",
-      refused: "{board} abgelehnt: {refusal}",
+      refused: "{board} abgelehnt: {refusal}. Beheben, dann eine Baugruppe neu starten",
       slot: "Platz {slot}: {refusal}. {reel} abnehmen, {load} rüsten",
       slotSplice:
-        "Platz {slot}: {refusal}. {reel} abnehmen. {load} ANSPLEISSEN, wenn der Gurt davor endet",
+        "Platz {slot}: {refusal}. {reel} abnehmen. {load} SPLEISSEN, oder ABRÜSTEN und die " +
+        "Rolle darauf RÜSTEN",
       empty: "Platz {slot} ist leer: {load} rüsten",
       expired: "Platz {slot}, {reel} abgelaufen: abrüsten, {load} rüsten",
       unbaked: "Platz {slot}, {reel} nicht getrocknet: abrüsten, {load} rüsten",
       differs:
-        "{board}: Die Maschine nahm {reel}, der Desk hat dort eine andere Rolle. Qualität rufen",
+        "{board}: Die Maschine nahm {reel}, der Desk hat dort eine andere Rolle. Baugruppe " +
+        "beiseite legen, ABRÜSTEN, die Rolle darauf RÜSTEN",
       "not-in-work": "{board} ist hier nicht in Arbeit. Neu starten",
       silent: "Der Desk oder die Maschine ist nicht zu hören. {reason}",
       fault: "Der Sender hat einen Fehler. {reason}",
@@ -344,6 +346,12 @@ export const TEXTS = {
       OK: "OK",
       OFF: "NICHT AUF LISTE",
       NOSHEET: "KEINE LISTE",
+    },
+    stops: {
+      load: "STOPPT: {load} RÜSTEN",
+      splice: "STOPPT: {load} SPLEISSEN",
+      change: "STOPPT: ABRÜSTEN, {load} RÜSTEN",
+      there: "STOPPT: ABRÜSTEN, die Rolle darauf RÜSTEN",
     },
     urgent: {
       where: "{machine} {slot}",

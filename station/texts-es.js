@@ -85,14 +85,17 @@ export const TEXTS = {
     causes: {
       idle: "ninguna placa iniciada",
       waiting: "espera la respuesta del desk",
-      refused: "{board} rechazada: {refusal}",
+      refused: "{board} rechazada: {refusal}. Corríjalo e inicie una placa de nuevo",
       slot: "posición {slot}: {refusal}. Quite {reel}, cargue {load}",
       slotSplice:
-        "posición {slot}: {refusal}. Quite {reel}. EMPALME {load} cuando acabe la cinta actual",
+        "posición {slot}: {refusal}. Quite {reel}. EMPALME {load}, o DESCARGUE y CARGUE el " +
+        "carrete que está en ella",
       empty: "posición {slot} vacía: cargue {load}",
       expired: "posición {slot}, {reel} caducado: descárguelo, cargue {load}",
       unbaked: "posición {slot}, {reel} sin hornear: descárguelo, cargue {load}",
-      differs: "{board}: la máquina tomó {reel}, que el desk no tiene ahí. Llame a Calidad",
+      differs:
+        "{board}: la máquina tomó {reel}, que el desk no tiene ahí. Aparte la placa, DESCARGUE, " +
+        "CARGUE el carrete que está en ella",
       "not-in-work": "{board} no está en curso aquí. Iníciela de nuevo",
       silent: "no se oye al desk o a la máquina. {reason}",
       fault: "el emisor tiene un fallo. {reason}",
@@ -327,6 +330,12 @@ export const TEXTS = {
       OK: "OK",
       OFF: "NO EN HOJA",
       NOSHEET: "SIN HOJA",
+    },
+    stops: {
+      load: "PARA: CARGAR {load}",
+      splice: "PARA: EMPALMAR {load}",
+      change: "PARA: DESCARGAR, CARGAR {load}",
+      there: "PARA: DESCARGAR, CARGAR el que está en ella",
     },
     urgent: {
       where: "{machine} {slot}",

@@ -87,14 +87,16 @@ export const TEXTS = {
     causes: {
       idle: "no board is started",
       waiting: "waits for the desk's answer",
-      refused: "{board} refused: {refusal}",
+      refused: "{board} refused: {refusal}. Correct it, and start a board anew",
       slot: "slot {slot}: {refusal}. Take {reel} off, load {load}",
       slotSplice:
-        "slot {slot}: {refusal}. Take {reel} off. SPLICE {load} when the tape in front ends",
+        "slot {slot}: {refusal}. Take {reel} off. SPLICE {load}, or UNLOAD and LOAD what is on it",
       empty: "slot {slot} is empty: load {load}",
       expired: "slot {slot}, {reel} expired: unload it, load {load}",
       unbaked: "slot {slot}, {reel} is not baked: unload it, load {load}",
-      differs: "{board}: the machine took {reel}, which the desk does not have there. Call Quality",
+      differs:
+        "{board}: the machine took {reel}, which the desk does not have there. Put the board " +
+        "aside, UNLOAD, LOAD what is on it",
       "not-in-work": "{board} is not in work here. Start it anew",
       silent: "the desk or the machine is not heard. {reason}",
       fault: "the sender has a fault. {reason}",
@@ -321,6 +323,12 @@ export const TEXTS = {
       OK: "OK",
       OFF: "NOT ON SHEET",
       NOSHEET: "NO SHEET KNOWN",
+    },
+    stops: {
+      load: "STOPS: LOAD {load}",
+      splice: "STOPS: SPLICE {load}",
+      change: "STOPS: UNLOAD, LOAD {load}",
+      there: "STOPS: UNLOAD, LOAD what is on it",
     },
     urgent: {
       where: "{machine} {slot}",

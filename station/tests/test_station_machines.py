@@ -47,6 +47,7 @@ def test_each_machine_on_all_screens(site: Site) -> None:
     machines_say(site, M1=STOP, M2={"State": "go", "Board": "SN-2041"})
     with Operator(site) as it:
         it.ready()
+        wait_for("its slot says so", lambda: "STOPS: LOAD K-4 · EMPTY" in it.text("main"))
         stopped = "M1 STOPPED: slot 3, R-OLD expired: unload it, load K-4"
         for screen in SCREENS:
             it.go(screen)

@@ -4,7 +4,7 @@ import "./page.mjs";
 
 const clock = await import("../../clock.js");
 const { readMachines } = await import("../../machines.js");
-const { lineOf, linesOf } = await import("../../machine_lines.js");
+const { closingText, lineOf, linesOf } = await import("../../machine_lines.js");
 
 const NOW = Date.parse("2026-03-02T06:01:10Z");
 const AT = "2026-03-02T06:01:04Z";
@@ -30,8 +30,18 @@ test("after a refused splice the reels on the slot go on", () => {
   const load = { part: "CAP", reel: "K-22" };
   const head = "M1 STOPPED: slot 2: a scan was refused. Take K-20 off";
   assert.equal(text(it, load), `${head}, load K-22`);
-  const wanted = `${head}. SPLICE K-22 when the tape in front ends`;
+  const wanted = `${head}. SPLICE K-22, or UNLOAD and LOAD what is on it`;
   assert.equal(text(it, { ...load, isSplice: true }), wanted);
+});
+
+test("a slot that stops its machine has the scan by which it goes on", () => {
+  const load = { part: "CAP", reel: "K-22" };
+  const closing = (cause, isSplice) => closingText({ cause }, { ...load, isSplice });
+  assert.equal(closing("empty", false), "STOPS: LOAD K-22");
+  assert.equal(closing("slot", false), "STOPS: LOAD K-22");
+  assert.equal(closing("slot", true), "STOPS: SPLICE K-22");
+  assert.equal(closing("expired", true), "STOPS: UNLOAD, LOAD K-22");
+  assert.equal(closing("differs", true), "STOPS: UNLOAD, LOAD what is on it");
 });
 
 test("each cause has words, and one that is new has the sender's", () => {

@@ -5,7 +5,7 @@ import { SETUP } from "./page.mjs";
 const { Scan } = await import("../../scan.js");
 
 /** A page that notes what a scan does; each slot of `live` has a reel. */
-function page(live = [], rows = null) {
+function page(live = [], rows = null, isKnown = true) {
   const told = { acted: [], faults: [], questions: [], seen: [], verified: [] };
   const slot = (machine, name) => {
     const reels = live.includes(`${machine}/${name}`) ? [{ reel: "R-0", remaining: "9" }] : [];
@@ -18,9 +18,10 @@ function page(live = [], rows = null) {
     model: {
       slot,
       isLive: (machine, name) => live.includes(`${machine}/${name}`),
-      isOn: (machine, name, reel) => live.includes(`${machine}/${name}`) && reel === "R-0",
+      isOn: (machine, name, reel) =>
+        isKnown && live.includes(`${machine}/${name}`) && reel === "R-0",
       slotsNow: async () => rows,
-      line: () => ({ slots: [] }),
+      line: () => ({ slots: isKnown ? [] : null }),
       state: { ok: true, at: performance.now() },
       refresh: () => {},
     },
@@ -47,8 +48,8 @@ function page(live = [], rows = null) {
 }
 
 /** Scans codes one behind the other, as a hand does: an equal one more than a second later. */
-async function scanned(codes, live, rows) {
-  const { told, scan } = page(live, rows);
+async function scanned(codes, live, rows, isKnown) {
+  const { told, scan } = page(live, rows, isKnown);
   for (const code of codes) {
     scan.last.at = -Infinity;
     await scan.take(code);
@@ -64,8 +65,8 @@ test("a slot and a reel load, or splice where the slot has a reel", async () => 
 
 test("a reel that is on its slot is verified, and nothing is sent", async () => {
   const row = { slot: "1", reel: "R-0", part: "CAP", minutes_left: "unlimited" };
-  const scans = async (rows) => {
-    const { acted, verified, faults } = await scanned(["S/M1/1", "R-0"], ["M1/1"], rows);
+  const scans = async (rows, isKnown = true) => {
+    const { acted, verified, faults } = await scanned(["S/M1/1", "R-0"], ["M1/1"], rows, isKnown);
     return { acted: acted.map(([action]) => action), verified, faults: faults.length };
   };
   const none = { acted: [], verified: [], faults: 0 };
@@ -76,6 +77,9 @@ test("a reel that is on its slot is verified, and nothing is sent", async () => 
   assert.deepEqual(await scans(null), { ...none, faults: 1 }, "the desk doesn't answer");
   assert.deepEqual(await scans([]), { ...none, acted: ["LOAD"] }, "it was taken off meanwhile");
   assert.deepEqual(await scans([{ ...row, reel: "R-1" }]), { ...none, acted: ["SPLICE"] });
+  assert.deepEqual(await scans([row], false), { ...none, verified: ["R-0"] }, "a new page");
+  assert.deepEqual(await scans([], false), { ...none, acted: ["LOAD"] }, "a new page");
+  assert.deepEqual(await scans(null, false), { ...none, acted: ["SPLICE"] }, "no answer");
 });
 
 test("an action comes before or behind what it is of", async () => {
