@@ -29,7 +29,7 @@ Told = Dict[str, Any]  # what is kept of a file
 
 def take_lines(bridge: Bridge, stream: BinaryIO) -> None:
     """Takes a stream, and says of each line what came of it."""
-    heading, number, waits = b"", 0, threading.Event()
+    heading, waits = b"", threading.Event()
 
     def live() -> None:
         """The stream is open: somebody has its other end, also while he says nothing."""
@@ -42,19 +42,18 @@ def take_lines(bridge: Bridge, stream: BinaryIO) -> None:
     waits.set()
     for line in disk.lines_of(stream):
         waits.clear()
-        number += 1
         if bridge.form == "csv" and not heading:
             heading = line
         else:
-            for told in take_line(bridge, line, "", heading, number).told:
+            for told in take_line(bridge, line, "", heading).told:
                 console.say(told)
         waits.set()
 
 
-def take_line(bridge: Bridge, line: bytes, source: str, heading: bytes, number: int) -> Came:
+def take_line(bridge: Bridge, line: bytes, source: str, heading: bytes) -> Came:
     """Takes a line; a row of CSV below its heading."""
     if bridge.form == "csv":
-        return bridge.take(line, source, lambda data: fronts.csv_line(data, heading, number))
+        return bridge.take(line, source, lambda data: fronts.csv_line(data, heading))
     return bridge.take(line.strip(), source)
 
 
@@ -79,7 +78,6 @@ class Opened:
         """Nothing of it is read."""
         self.at, self.last, self.rest, self.since = 0, b"", b"", time.monotonic()
         self.taken = b""  # what was taken of a line that has no end
-        self.counted = 0, 0  # so many bytes have so many lines
 
     def told(self) -> Told:
         """What is kept of it."""
@@ -107,16 +105,6 @@ class Opened:
     def heading(self) -> bytes:
         """The first line."""
         return os.pread(self.file.fileno(), PIECE, 0).partition(b"\n")[0]
-
-    def lines_before(self) -> int:
-        """How many lines were read."""
-        while self.counted[0] < self.at:
-            most = min(PIECE, self.at - self.counted[0])
-            piece = os.pread(self.file.fileno(), most, self.counted[0])
-            if not piece:
-                break
-            self.counted = self.counted[0] + len(piece), self.counted[1] + piece.count(b"\n")
-        return self.counted[1]
 
     def grown(self, rest: bytes) -> None:
         if rest != self.rest:
@@ -212,12 +200,10 @@ class Following:
     def take_data(self, file: Opened, data: bytes) -> None:
         """Takes lines of a file that stand where it was read to."""
         is_csv, at = self.bridge.form == "csv", file.at
-        number = file.lines_before() if is_csv else 0
         heading = file.heading() if is_csv else b""
         for line in data.split(b"\n"):
-            number += 1
             if line.strip() and not (is_csv and at == 0):
-                take_line(self.bridge, line, self.path.name, heading, number)
+                take_line(self.bridge, line, self.path.name, heading)
             at += len(line) + 1
             self.bridge.look()
 

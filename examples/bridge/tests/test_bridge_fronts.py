@@ -13,7 +13,7 @@ from typing import Any, Callable
 import fronts
 import pytest
 from at_port import PATIENCE
-from bridge_lab import Room, start
+from bridge_lab import Room
 
 from tracedesk import tables
 
@@ -113,8 +113,8 @@ def by_csv(room: Room) -> list[Any]:
 
 
 def test_rows_of_a_file_that_grows_are_records(room: Room) -> None:
-    """Below the heading of their own file, also after a rotation; a row that is none is kept aside
-    with its line.
+    """Below the heading of their own file, also after a rotation; a row that is none is kept
+    aside.
     """
     words = by_csv(room)
     room.file.write_text(f"{HEADING}\n{row(1)}\n")
@@ -124,7 +124,7 @@ def test_rows_of_a_file_that_grows_are_records(room: Room) -> None:
     done = room.run(*words, room.file, status=1)
     assert b"2 dead" in done.stderr
     why = sorted(it.read_text() for it in room.aside.glob("*.why"))
-    assert "said.log: line 4: it has 2 fields, and the heading has 4\n" in why
+    assert "said.log: it has 2 fields, and the heading has 4\n" in why
     with open(room.file, "a") as file:
         file.write(f"{row(3)[9:]}\n")
     room.file.rename(room.at / "said.log.1")
@@ -231,14 +231,6 @@ def test_a_bridge_killed_at_each_file_loses_and_doubles_none(room: Room) -> None
         [*words, "--folder", folder, "--follow"],
         lambda number: put_file(folder, f"{number:03}.csv", f"{HEADING}\n{row(number)}\n"),
     )
-
-
-def test_a_bridge_killed_at_each_line_loses_and_doubles_none(room: Room) -> None:
-    def put(number: int) -> None:
-        with open(room.file, "ab") as file:
-            file.write(start(f"B-{number}-C1") + b"\n")
-
-    killed_at_each(room, [room.file, "--follow"], put)
 
 
 def test_what_is_no_text_is_read_all_the_same() -> None:
