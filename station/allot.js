@@ -1,8 +1,8 @@
 // Which reels go to which slots of a line for so many boards: what is on a slot counts first, and
 // no reel is promised twice.
 
-export const ALL_BOARDS =
-  100_000; // for so many boards a kit list names each free reel that it can
+import { MOST_BOARDS } from "./limits.js";
+
 export const piecesOf = (reels) =>
   reels.reduce((sum, it) => sum + Number(it.pieces ?? it.remaining), 0);
 const order = (minutes) =>
@@ -14,7 +14,7 @@ const byTurn = (a, b) =>
 
 /**
  * The rows of a machine's sheet for so many boards, with what is on their slots. `kit` is the
- * kit list of 100,000 boards.
+ * kit list for the most boards, which names each free reel that it can.
  */
 function rowsOf({ machine, kit, slots }, boards) {
   const sheet = new Map(kit.map((it) => [it.slot, it]));
@@ -26,7 +26,7 @@ function rowsOf({ machine, kit, slots }, boards) {
       machine,
       slot,
       part,
-      needed: (Number(needed) / ALL_BOARDS) * boards,
+      needed: (Number(needed) / MOST_BOARDS) * boards,
       mounted: piecesOf(live.filter((it) => it.part === part)),
       other: piecesOf(others),
       otherParts: [...new Set(others.map((it) => it.part))],
@@ -139,7 +139,7 @@ function give(rows, reels, wants) {
 
 /**
  * The rows of all machines with what is on the slot, what to bring, and what neither has. `lines`
- * have of each machine its slot list, its kit list for 100,000 boards as `kit` and for `boards`
+ * have of each machine its slot list, its kit list for the most boards as `kit` and for `boards`
  * as `more`; `cards` the part of a reel by its name. Pieces of another part on a slot are told
  * apart: whether they may stand there no report says. So nothing is `missing` that they could be,
  * and `unsure` says what would be missing without them.

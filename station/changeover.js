@@ -1,13 +1,14 @@
 // The screen Changeover: the product of each machine, and the kit for so many boards with what is
 // on the slots already.
-import { ALL_BOARDS, allotted, unclear } from "./allot.js";
+import { allotted, unclear } from "./allot.js";
 import { Cart } from "./cart.js";
 import * as clock from "./clock.js";
 import * as desk from "./desk.js";
 import { button, el, field, table } from "./dom.js";
 import { productText } from "./known.js";
 import { lifeText, piecesText } from "./life.js";
-import { isName, MOST_BOARDS, numberIn } from "./names.js";
+import { MOST_BOARDS } from "./limits.js";
+import { isName, numberIn } from "./names.js";
 import { said } from "./say.js";
 import { TEXTS } from "./words.js";
 
@@ -205,7 +206,7 @@ export class ChangeoverScreen {
     const kit = (count) => desk.rows("kit", { product, machine, boards: String(count) });
     try {
       const slots = await desk.rows("slots", { machine });
-      const all = await kit(ALL_BOARDS);
+      const all = await kit(MOST_BOARDS);
       const more = await kit(boards);
       return { machine, slots: slots.rows, kit: all.rows, more: more.rows, had: more.had };
     } catch (fault) {

@@ -5,13 +5,13 @@ import * as clock from "./clock.js";
 import { rowsOf } from "./csv.js";
 import * as desk from "./desk.js";
 import { lifeOrder } from "./life.js";
+import { MOST_BOARDS } from "./limits.js";
 import { readMachines } from "./machines.js";
 import { sheetOf, shownRows } from "./reckon.js";
 import * as store from "./store.js";
 
 const LEAST_PERIOD = 3; // seconds
 const KIT_PERIOD = 300; // of sheets, free reels and the overdue list, which seldom change
-const ALL_BOARDS = "100000";
 const PACE_WINDOW = 20 * 60_000; // milliseconds over which a machine's pace is reckoned
 const STATUS_PERIOD = 3_000; // milliseconds: of what senders say of their machines
 const ENOUGH = 6; // free reels to choose from
@@ -387,7 +387,7 @@ export class Model {
       return null;
     }
     let part = null;
-    for (const boards of ["1", ALL_BOARDS]) {
+    for (const boards of ["1", String(MOST_BOARDS)]) {
       let told;
       try {
         told = await desk.rows("kit", { product, machine, boards });

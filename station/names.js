@@ -1,9 +1,6 @@
 // What the desk takes as a name or a number (docs/messages.md, "Values"), and how codes of the
 // plant are read.
 
-export const MOST_PIECES = 10_000_000;
-export const MOST_MINUTES = 525_600;
-export const MOST_BOARDS = 100_000;
 export const LEVELS = ["1", "2", "2a", "3", "4", "5", "5a", "6"];
 
 /**

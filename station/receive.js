@@ -3,7 +3,8 @@
 import { wordsOf } from "./answers.js";
 import { button, el, field, isTwice } from "./dom.js";
 import { attributesOf, fieldsOf, receiptOf } from "./label.js";
-import { isName, LEVELS, MOST_MINUTES, MOST_PIECES, numberIn } from "./names.js";
+import { GREATEST_LABEL, GREATEST_QUANTITY } from "./limits.js";
+import { isName, LEVELS, numberIn } from "./names.js";
 import { said } from "./say.js";
 import { bodyOf, WORDS } from "./scan.js";
 import { TEXTS } from "./words.js";
@@ -248,9 +249,9 @@ export class ReceiveScreen {
       reel: text("reel"),
       part: text("part"),
       lot: text("lot"),
-      quantity: numberIn(text("quantity"), 1, MOST_PIECES),
+      quantity: numberIn(text("quantity"), 1, GREATEST_QUANTITY),
       level: elements.level.value,
-      minutes: numberIn(text("minutes"), 1, MOST_MINUTES),
+      minutes: numberIn(text("minutes"), 1, GREATEST_LABEL),
       attributes: this.attributes(),
     };
   }

@@ -1,7 +1,8 @@
 // What a scan does: codes in, a message out. It holds at most a slot or a reel, an action that
 // waits for one, and a number.
 import * as desk from "./desk.js";
-import { LEVELS, MOST_PIECES, numberIn, readCode, stripped } from "./names.js";
+import { GREATEST_QUANTITY } from "./limits.js";
+import { LEVELS, numberIn, readCode, stripped } from "./names.js";
 import { said } from "./say.js";
 import { TEXTS } from "./words.js";
 
@@ -312,7 +313,7 @@ export class Scan {
   async number(text) {
     const { asking } = this;
     const { action, values, card } = asking;
-    const quantity = numberIn(text, WITH_NUMBER[action], MOST_PIECES);
+    const quantity = numberIn(text, WITH_NUMBER[action], GREATEST_QUANTITY);
     const { fault } = TEXTS;
     this.digits = "";
     const { model } = this.station;
@@ -321,7 +322,7 @@ export class Scan {
     if (quantity === null || names.includes(text)) {
       this.station.fault(said(
         quantity === null ? fault.number : fault.numberIsName,
-        { text, least: WITH_NUMBER[action], most: MOST_PIECES },
+        { text, least: WITH_NUMBER[action], most: GREATEST_QUANTITY },
       ));
       return;
     }

@@ -1,7 +1,8 @@
 // What whoever installs the station says of it: /etc/tracedesk/station/setup.json
 // (docs/station.md).
 import * as desk from "./desk.js";
-import { around, filled, isName, MOST_BOARDS } from "./names.js";
+import { GREATEST_LABEL, MOST_BOARDS } from "./limits.js";
+import { around, filled, isName } from "./names.js";
 import { isLoggedOut } from "./session.js";
 import { TEXTS } from "./words.js";
 
@@ -44,7 +45,7 @@ function faultOf(setup) {
   const tests = {
     title: isText(setup.title) && setup.title !== "",
     boards: whole(setup.boards, MOST_BOARDS),
-    expires: whole(setup.expires, 525_600),
+    expires: whole(setup.expires, GREATEST_LABEL),
     splice: whole(setup.splice, 1_440),
     heldSeconds: whole(setup.heldSeconds, 3_600),
     badgeMinutes: whole(setup.badgeMinutes, 1_440),

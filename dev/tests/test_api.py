@@ -15,7 +15,7 @@ from typing import Any
 
 import pytest
 from made_up import made_up
-from tracedesk_dev import ROOT, case_connections, schemas, vectors
+from tracedesk_dev import ROOT, case_connections, limits, schemas, vectors
 from tracedesk_dev.ports import lent
 from tracedesk_dev.vectors import Exchange, Vector
 
@@ -203,7 +203,7 @@ def test_the_schema_says_of_faults_that_are_made_up_what_the_program_says(
     program: pathlib.Path, tmp_path: pathlib.Path
 ) -> None:
     schema = schemas.Messages(read("message.schema.json"))
-    messages = [copy.deepcopy(it) for it in made_up(read("messages.json"))]
+    messages = [copy.deepcopy(it) for it in made_up(limits.table())]
     given = b"".join(json.dumps(it).encode() + b"\n" for it in messages)
     done = subprocess.run(
         [program, "feed"], input=given, capture_output=True, cwd=tmp_path, timeout=600

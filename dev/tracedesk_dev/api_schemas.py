@@ -214,10 +214,11 @@ def schema_file(title: str, definitions: Schema, root: str) -> str:
 # --- OpenAPI
 
 
-def bodies_of(route: Member, at: str) -> Schema:
+def bodies_of(table: Table, route: Member, at: str) -> Schema:
     if route["path"] == "/messages":
         return {"application/json": {"schema": ref(at, "message")}}
-    return {"text/csv": {"schema": {"type": "string", "maxLength": 1048576}}}
+    longest = table["limits"]["LONGEST_INPUT"]
+    return {"text/csv": {"schema": {"type": "string", "maxLength": longest}}}
 
 
 def responses_of(table: Table, route: Member, at: str) -> Schema:
@@ -291,7 +292,7 @@ def openapi(table: Table, examples: dict[str, list[Any]]) -> Schema:
             made["requestBody"] = {
                 "description": sentence(route["body"]),
                 "required": True,
-                "content": bodies_of(route, at),
+                "content": bodies_of(table, route, at),
             }
         made["responses"] = responses_of(table, route, at)
         paths.setdefault(route["path"], {})[route["method"].lower()] = made

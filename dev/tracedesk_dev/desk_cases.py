@@ -1,11 +1,11 @@
 """The messages of all cases as stored texts, for the Rattle test that runs both desks on them."""
 import datetime
 import json
-import pathlib
 import re
 from typing import Any
 
-ROOT = pathlib.Path(__file__).resolve().parents[2]
+from tracedesk_dev import ROOT, limits
+
 FILE = ROOT / "crates/desk_tests/src/tests/cases.rt"
 MOST = 400  # messages of a case: the test runs each beginning of it
 HEAD = '''//! The messages of the cases, made by `dev/cases --desks`.
@@ -17,21 +17,27 @@ LISTS = {
     "Rows": ("Slot", "PartNumber", "Designators"),
     "Counts": ("Reel", "Counted"),
 }  # an element's members; a count may be 0
-NUMBERS = {"Quantity": (1, 10_000_000), "Counted": (0, 10_000_000), "LabelMinutes": (1, 525_600)}
+LIMITS = {name: it.number for name, it in limits.limits().items()}
+NUMBERS = {
+    "Quantity": (1, LIMITS["GREATEST_QUANTITY"]),
+    "Counted": (0, LIMITS["GREATEST_QUANTITY"]),
+    "LabelMinutes": (1, LIMITS["GREATEST_LABEL"]),
+}
 FORMS = {"Designator": r"[A-Za-z0-9_.-]{1,16}", "Level": "1|2a?|3|4|5a?|6"}
 
 
 def fields_of(value: Any, name: str) -> list[str]:
     """Returns the fields that a member has in a stored text: a list's length, and then those of its
     elements. A value that no desk takes is a ValueError."""
-    if name in (*LISTS, "Designators") and isinstance(value, list) and 0 < len(value) <= 5_000:
+    is_list = name in (*LISTS, "Designators")
+    if is_list and isinstance(value, list) and 0 < len(value) <= LIMITS["LONGEST_LIST"]:
         pairs = [
             (key, it if key == "Designator" else it["Quantity" if key == "Counted" else key])
             for it in value
             for key in LISTS.get(name, ("Designator",))
         ]
         return [str(len(value)), *(field for key, it in pairs for field in fields_of(it, key))]
-    if name in (*LISTS, "Designators"):
+    if is_list:
         is_right = False
     elif name in NUMBERS:
         is_right = type(value) is int and NUMBERS[name][0] <= value <= NUMBERS[name][1]
@@ -65,8 +71,7 @@ def line_of(message: str, kinds: dict[str, list[dict[str, Any]]]) -> str | None:
 
 def text() -> str:
     """Returns the text of the table."""
-    with open(ROOT / "docs/api/messages.json", encoding="utf-8") as it:
-        kinds = {kind["word"]: kind["members"] for kind in json.load(it)["messages"]}
+    kinds = {kind["word"]: kind["members"] for kind in limits.table()["messages"]}
     cases: dict[str, None] = {}
     for folder in sorted(it for it in (ROOT / "cases").iterdir() if it.is_dir()):
         lines = [

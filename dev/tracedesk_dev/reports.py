@@ -13,6 +13,8 @@ import sqlite3
 import urllib.parse
 from typing import Any, Callable, Iterable, Sequence
 
+from tracedesk_dev.limits import limits
+
 LIMITS = {"1": None, "2": 525_600, "2a": 40_320, "3": 10_080, "4": 4_320, "5": 2_880, "5a": 1_440}
 PLACED = "SELECT {} FROM placement JOIN reel USING (reel) WHERE {}"
 DETAILS = {  # columns of a trace by what is asked and the detail
@@ -121,7 +123,8 @@ def free_reels(database: sqlite3.Connection, part: str) -> list[tuple[Any, ...]]
 
 
 def kit_list(database: sqlite3.Connection, product: str, machine: str, boards: str) -> str:
-    if not re.fullmatch("[0-9]{1,6}", boards) or not 1 <= int(boards) <= 100_000:
+    most = limits()["MOST_BOARDS"].number
+    if not re.fullmatch("[0-9]{1,6}", boards) or not 1 <= int(boards) <= most:
         raise ValueError(boards)
     exists(database, "Sheet", "sheet_row", product=product, machine=machine)
     given, rows = set(), []

@@ -11,13 +11,12 @@ import datetime
 from collections.abc import Callable, Iterable, Iterator
 from typing import Any, NamedTuple
 
+from tracedesk.limits import FURTHEST_AHEAD, GREATEST_LABEL, LONGEST_INPUT
+
 from tracedesk_ops import catalogue, model, stored
-from tracedesk_ops.desk_tables import GREATEST_FLOOR_LIFE, KNOWN, DeskTables, Known, NotCarried
+from tracedesk_ops.desk_tables import KNOWN, DeskTables, Known, NotCarried
 from tracedesk_ops.desk_tables import ReelRow, SheetRow
 
-# a message may be so many minutes after the desk's, if it doesn't set the clock
-FARTHEST_AHEAD = 20_160
-LONGEST_MESSAGE = 1_048_576
 KNOWN_IN_ALL = 20_000  # of all sources, the newest ones
 
 
@@ -47,7 +46,7 @@ class Messages:
         self.minute: int | None = None
 
     def say(self, minute: int, word: str, **body: Any) -> None:
-        if self.minute is not None and minute > self.minute + FARTHEST_AHEAD and word != "ClockSet":
+        if self.minute is not None and minute > self.minute + FURTHEST_AHEAD and word != "ClockSet":
             self.say(minute, "ClockSet")
         self.add(f"{self.prefix}-{len(self.lines) + 1}", self.source, minute, word, body)
         self.minute = minute
@@ -56,7 +55,7 @@ class Messages:
         line = stored.line(uid, source, minute, word, body)
         self.lines.append(
             line
-            if len(line) <= LONGEST_MESSAGE
+            if len(line) <= LONGEST_INPUT
             else setup(uid, source, catalogue.spelled(minute), body)
         )
 
@@ -104,7 +103,7 @@ class Carrier:
         """
         mounts = []
         for (machine, slot), tape in self.archive.tapes.items():
-            before = GREATEST_FLOOR_LIFE
+            before = GREATEST_LABEL
             for place, reel in enumerate(tape):
                 before = min(before, self.exposure[reel.reel])
                 mounts.append((before, machine, slot, reel, place > 0))

@@ -11,6 +11,8 @@ import sqlite3
 from collections.abc import Callable
 from typing import Any, NamedTuple
 
+from tracedesk.limits import GREATEST_LABEL
+
 from tracedesk_ops import copies, heads, model, sealed
 
 FLOOR_LIFE = {
@@ -22,7 +24,6 @@ FLOOR_LIFE = {
     "5": 2_880,
     "5a": 1_440,
 }
-GREATEST_FLOOR_LIFE = 525_600  # in minutes, a label's too
 # UniqueIDs of each source that a new desk knows of the archive: those that a sender may still send
 # again
 KNOWN = 1_000
@@ -61,7 +62,7 @@ class ReelRow(NamedTuple):
     def exposure(self, minute: int) -> int:
         """How many minutes it was open until this one, at most its floor life."""
         counted = self.used + (minute - self.open_since if self.is_open() else 0)
-        return min(counted, self.limit() or GREATEST_FLOOR_LIFE)
+        return min(counted, self.limit() or GREATEST_LABEL)
 
     def limit(self) -> int | None:
         """Its floor life in minutes, none where it has no limit."""

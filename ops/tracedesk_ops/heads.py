@@ -14,11 +14,12 @@ from collections.abc import Iterable
 from typing import Any
 
 from tracedesk import Desk
+from tracedesk.limits import GREATEST_MINUTE
 
 from tracedesk_ops import model, stored
 
 OF_BOOK = 32  # digits
-LAST_MINUTE = 4_223_371_679  # 9999-12-31T23:59Z: too far ahead for each desk that has a minute
+LAST_MINUTE = GREATEST_MINUTE  # too far ahead for each desk that has a minute
 SECONDS = 60
 RECORDED = """SELECT uid FROM accepted WHERE uid >= ? AND uid < ? AND source = ?
     AND command = 'ClockSet' ORDER BY number"""  # by the index of uid

@@ -20,6 +20,7 @@ from collections.abc import Iterable
 from typing import Any, NamedTuple
 
 from tracedesk import records as sent
+from tracedesk.limits import LONGEST_INPUT
 from tracedesk_ops import book, catalogue, files, heads, inboxes, model
 
 FILE_NAME, COLLECTED, STATUS = "untraced.csv", "collected.json", "untraced.json"
@@ -33,8 +34,7 @@ LOST = "lost"  # in place of an id: the rows that no copy has
 SCRAPPED = "scrapped"  # what became of a board: nothing else takes it out of recalls
 HANDLING = ("MaterialsLoaded", "MaterialsSpliced", "MaterialsUnloaded")
 MOST_DECIDED = 1_000  # ids that the status file names
-# bytes of a record: a message has 1,048,576 at most, and is there as read and as it came
-LONGEST = 4 << 20
+LONGEST = 4 * LONGEST_INPUT  # bytes of a record: the message is there as read and as it came
 MOST_SAID = 2_000  # letters of a column that a reader is shown; the file and the record have all
 
 

@@ -10,9 +10,11 @@ import re
 import uuid
 from typing import Any, ClassVar, Dict, Optional, Protocol, Sequence, Tuple, Type, TypeVar
 
+from . import limits
+
 EARLIEST = datetime.datetime(1970, 1, 1, tzinfo=datetime.timezone.utc)
 LATEST = datetime.datetime(9999, 12, 30, 22, tzinfo=datetime.timezone.utc)
-LONGEST_MESSAGE = 1_048_576
+LONGEST_MESSAGE = limits.LONGEST_INPUT
 
 
 class OutOfRange(ValueError):

@@ -49,8 +49,8 @@ from typing import Any, NamedTuple
 
 from tracedesk import Desk, GivenUp, NotTaken, NotThere, answers
 from tracedesk import words as reports
+from tracedesk.limits import FURTHEST_AHEAD
 from tracedesk_ops import catalogue, desks, heads, options, places, plant, stored
-from tracedesk_ops.carry import FARTHEST_AHEAD
 from tracedesk_ops.desk_tables import FLOOR_LIFE
 
 DONE, NO, NO_ANSWER, SEE_TO_IT = 0, 1, 3, 4
@@ -152,7 +152,7 @@ def want_new(new: Desk, its: Move, at: str) -> None:
             f"ReelExists: {at} has a reel {its.called}, with {there.remaining} pieces left: if it"
             " is another one, or was there before, label it anew and say that by --as"
         )
-    if is_before(new, heads.LAST_MINUTE) and not is_before(new, its.begin + FARTHEST_AHEAD + 1):
+    if is_before(new, heads.LAST_MINUTE) and not is_before(new, its.begin + FURTHEST_AHEAD + 1):
         raise NotMoved(
             f"ClockAhead: {its.card.reel} has been out for {its.out} minutes, so it has to begin at"
             f" {catalogue.spelled(its.begin)}, and {at} is later: bake it, and tell the old desk so"
