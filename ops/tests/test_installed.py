@@ -63,16 +63,6 @@ def test_both_programs_run_with_the_c_library_alone(
 # --- The service
 
 
-@pytest.mark.parametrize(
-    "unit", ["tracedesk", "tracedesk-watch", "tracedesk-clock@", "tracedesk-send@"]
-)
-def test_a_unit_is_little_exposed(machine: Machine, unit: str) -> None:
-    words = "systemd-analyze security --offline=true --no-pager"
-    said = machine.shell(f"{words} {UNITS}/{unit}.service")
-    found = re.search(r"exposure level for .*: ([0-9.]+)", said)
-    assert found and float(found[1]) <= 2
-
-
 def test_units_have_no_fault(machine: Machine) -> None:
     machine.shell(f"systemd-analyze verify {UNITS}/tracedesk*.service {UNITS}/tracedesk*.timer")
 

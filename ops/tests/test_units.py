@@ -11,13 +11,7 @@ PROMETHEUS = ROOT / "packaging/prometheus"
 RULES, TESTS = (PROMETHEUS / f"tracedesk-alerts{its}.yml" for its in ("", "-test"))
 METRIC = re.compile(r"\btracedesk_\w+")
 MOST_EXPOSED = 2.0  # of a unit, by systemd-analyze
-NARROW = (
-    "tracedesk-recall-sign@",
-    "tracedesk-watch",
-    "tracedesk-clock@",
-    "tracedesk-untraced",
-    "tracedesk-send@",
-)
+SERVICES = sorted(path.stem for path in (ROOT / "packaging").glob("tracedesk*.service"))
 
 
 def alerts() -> set[str]:
@@ -107,7 +101,7 @@ def test_an_idle_clock_begins_and_ends_with_its_desk(desk: str, timer: str) -> N
 
 
 @pytest.mark.needs("systemd-analyze")
-@pytest.mark.parametrize("name", NARROW)
+@pytest.mark.parametrize("name", SERVICES)
 def test_a_unit_is_little_exposed(units: list[pathlib.Path], name: str) -> None:
     (unit,) = (its for its in units if its.name == f"{name}.service")
     said = run(["systemd-analyze", "security", "--offline=true", "--no-pager", unit]).out
