@@ -353,7 +353,7 @@ REFUSALS: Dict[str, str] = {
     "NotInWork": "start it, or check its serial number",
     "DesignatorNotOnSheet": "correct the sheet or the placement program",
     "AlreadyPlaced": "nothing, if the sender reported one placement in two messages. Its programmer has to correct that: a message sent again keeps its UniqueID",
-    "ReelShort": "for an install: report the load or the splice that the desk doesn't know of, and send the message again. For a scrap: correct its number",
+    "ReelShort": "for an install: report the load or the splice that the desk doesn't know of, and decide about the board, which is untraced work. For a scrap: report the right number",
     "ReelTwice": "correct the counts",
     "CountAbove": "check whether it is the right reel; if it is, receive the pieces as a new reel",
 }
