@@ -148,6 +148,17 @@ def test_an_integrator_connects(machine: Machine) -> None:
         assert is_same(block.prints or "", got), f"{block.place}: {got}"
 
 
+def test_an_upgrade_names_the_timers_that_are_gone(machine: Machine) -> None:
+    """As the one that copied a desk of 1.0.0 each night."""
+    link = "/etc/systemd/system/timers.target.wants/tracedesk-backup.timer"
+    configure = "/var/lib/dpkg/info/tracedesk-plant.postinst configure 1.0.0 2>&1"
+    said = machine.shell(
+        f"mkdir -p $(dirname {link}); ln -s /lib/systemd/system/tracedesk-backup.timer {link};"
+        f" DPKG_MAINTSCRIPT_PACKAGE=tracedesk-plant {configure}; test ! -L {link}"
+    )
+    assert "tracedesk-backup.timer is gone" in said
+
+
 def test_a_purge_keeps_what_was_sent_and_the_next_installation_goes_on(
     machine: Machine,
 ) -> None:
