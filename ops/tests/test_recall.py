@@ -59,7 +59,7 @@ def test_each_end_of_the_chain_program_has_its_answer(
     stub.write_text(f"#!/bin/sh\necho 'tracedesk-chain: L1-1: {said}' >&2\n{end}\n")
     stub.chmod(0o755)
     monkeypatch.setenv("CHAIN", str(stub))
-    recall(*words).expect(3, told, "NOT ALL WERE ASKED")
+    recall(*words).expect(3, told, "NOT COMPLETE")
     assert recalled(*words, "--show", "pieces", status=3) == by_sql
 
 

@@ -66,7 +66,7 @@ def test_what_is_altered_is_named(
     words = ["lot", lot_of(world), *copied(line, folder / "L1"), "--show", "pieces"]
     link_desk(line, folder / "L1")
     change(folder / "L1/sealed" / first)
-    done = recall(*words).expect(3, "NOT ASKED: ", said, "NOT ALL WERE ASKED")
+    done = recall(*words).expect(3, "NOT ASKED: ", said, "NOT COMPLETE")
     assert files_of(table(done.out)) == files - {first}
 
 
@@ -106,7 +106,7 @@ def test_a_gap_in_the_chain_is_named(world: World, folder: pathlib.Path, name: s
     words = archives_of(world.first, folder / "L1", order)
     before = sorted((folder / "L1/sealed").iterdir())
     said = f"{world.first.archived[missing - 1].name} is missing, from which"
-    recall("lot", lot_of(world), *words).expect(3, said, "NOT ALL WERE ASKED")
+    recall("lot", lot_of(world), *words).expect(3, said, "NOT COMPLETE")
     assert sorted((folder / "L1/sealed").iterdir()) == before
 
 

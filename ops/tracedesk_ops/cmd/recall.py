@@ -140,10 +140,7 @@ def answer(asks: argparse.Namespace, room: pathlib.Path) -> int:
     except (plant.Fault, signing.NoSignature) as fault:
         words.stop(f"the answer can't be written: {fault}", 4)
     if recall.faults or recall.breaks:
-        plant.tell(
-            "NOT ALL WERE ASKED, or the archives are no chain, as is told above: what is printed"
-            " may lack boards"
-        )
+        plant.tell("NOT COMPLETE: boards may be missing, and the lines above say why")
     return recall.status()
 
 
