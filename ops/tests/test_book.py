@@ -84,10 +84,6 @@ def test_a_row_that_may_not_be_on_disk_has_no_head(
     assert form.head_of(archive) == head
     form.extend(archive, form.to_extend(archive), [])
     assert form.head_of(archive) == newer
-    note.unlink()
-    assert "bring the folder untraced back" in form.read(archive).fault
-    form.extend(archive, form.to_extend(archive), [])
-    assert (form.head_of(archive), form.read(archive).fault) == (newer, "")
 
 
 DAMAGES: dict[str, Callable[[bytes], bytes]] = {
@@ -97,13 +93,18 @@ DAMAGES: dict[str, Callable[[bytes], bytes]] = {
     "another header": lambda text: b"x" + text,
     "empty": lambda text: b"",
 }
+NOTES: dict[str, Callable[[pathlib.Path], object]] = {
+    "gone": pathlib.Path.unlink,
+    "of another book": lambda note: note.write_text('{"Rows": 2, "Chain": "0"}'),
+    "damaged": lambda note: note.write_text("{}"),
+}
 
 
 @pytest.mark.parametrize("how", DAMAGES)
 def test_a_damaged_book_has_no_head_and_takes_no_row(
     archive: pathlib.Path, form: "book.Form[object]", how: str
 ) -> None:
-    path, note = form.paths(archive)
+    path, _ = form.paths(archive)
     text = path.read_bytes()
     path.write_bytes(DAMAGES[how](text))
     assert (form.head_of(archive), bool(form.read(archive).fault)) == ("", True)
@@ -111,8 +112,21 @@ def test_a_damaged_book_has_no_head_and_takes_no_row(
         ADD[form.kind](archive, 3)
     path.write_bytes(text)
     ADD[form.kind](archive, 3)
-    note.write_text("{}")
-    assert form.head_of(archive) == "" and "damaged" in form.read(archive).fault
+
+
+@pytest.mark.parametrize("how", NOTES)
+def test_a_book_without_its_note_takes_no_row_until_a_person_settles_it(
+    archive: pathlib.Path, form: "book.Form[object]", how: str
+) -> None:
+    """Rows may have been cut off that no desk has recorded."""
+    head, (_, note) = form.head_of(archive), form.paths(archive)
+    NOTES[how](note)
+    assert (form.head_of(archive), bool(form.read(archive).fault)) == ("", True)
+    with pytest.raises(plant.Fault):
+        ADD[form.kind](archive, 3)
+    assert (books.settle(archive), books.settle(archive)) == (True, False)
+    assert (form.head_of(archive), form.read(archive).fault) == (head, "")
+    ADD[form.kind](archive, 3)
 
 
 def test_each_row_is_there_once_and_noted_wherever_a_call_is_killed(folder: pathlib.Path) -> None:
@@ -222,11 +236,18 @@ def test_lost_rows_are_noticed_after_roll_overs(line: Line, how: str) -> None:
     run_tool("reels", "list", "--line", line.folder).expect(3, LACKED)
 
 
-def test_a_person_decides_about_rows_that_no_copy_has(line: Line) -> None:
+@pytest.mark.parametrize("has_note", [True, False])
+def test_a_person_decides_about_rows_that_no_copy_has(line: Line, has_note: bool) -> None:
+    """The book of a mirror is older than its note, or both were gone."""
+    book, _ = untraced.BOOK.paths(line.archive)
+    older = book.read_bytes()
     refused(line.archive, 4)
     line.seal()
-    gone(line)
-    ADD["untraced"](line.archive, 3)
+    if has_note:
+        book.write_bytes(older)
+    else:
+        gone(line)
+        ADD["untraced"](line.archive, 3)
     line.rollover().expect()
     line.recall().expect(3, LACKED, "if none has it, call tracedesk-untraced decide lost")
     person: list[Word] = ["--by", PERSON[0], "--became", "looked at", "--reason", "on paper"]

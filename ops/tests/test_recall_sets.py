@@ -203,11 +203,7 @@ def test_a_book_that_is_not_as_it_was_written_is_noticed(
     give(line, book).expect()
     damage(kind, line, older)
     recall(line, "where", "date_code=2614").expect(3, "NOT ASKED", "reels.")
-    if kind == "head is gone":  # the rows that are there are noted again: the desk knows their head
-        give(line, book).expect()
-        assert "reels." not in recall(line, "where", "date_code=2614").said
-    else:
-        give(line, book).expect(3)
+    give(line, book).expect(3)
 
 
 def test_a_row_that_was_cut_off_is_none(line: Line, book: pathlib.Path) -> None:

@@ -4,7 +4,8 @@ appended.
 The last column of a row is its chain: the SHA-256 of the row and of the chain of the row before it.
 How many rows there are, and the last chain, are noted in the line's inbox, and the line's desk
 records that chain. So a book that was cut, replaced by an older one, or is gone is noticed, also if
-its note went with it.
+its note went with it. A book without its note is never taken for whole: the note is there before
+the first row.
 
     found = attributes.BOOK.read(archive)
     attributes.BOOK.extend(archive, found, new)
@@ -62,24 +63,19 @@ class Form(Generic[T]):
         path, note = self.paths(archive)
         try:
             count, chain = self.noted(archive)
-            text = path.read_bytes() if path.exists() else b""
+            found = self.rows_there(archive)
         except (OSError, ValueError) as fault:
             name = getattr(fault, "filename", None) or note
             return Rows([], [], f"{name}: it can't be read, so rows may be missing: {fault}")
-        found = self.parsed(path, text)
         fault_ = found.fault
         if not fault_ and [BEGIN, *found.chains][count : count + 1] != [chain]:
-            why = "lacks rows, or is another file" if text else "is gone"
+            why = "lacks rows, or is another file" if path.exists() else "is gone"
             fault_ = (
                 f"{path}: it {why}: {note} names {count} rows and another last one. Take it from a"
                 " mirror"
             )
-        elif not fault_ and found.values and not count:
-            fault_ = (
-                f"{note}: it is gone, or its folder isn't there, so rows of {path} may be missing:"
-                f" bring the folder {note.parent.name} back. Then tracedesk-untraced collect, or"
-                " tracedesk-reels add, notes the rows that are there"
-            )
+        elif not fault_ and found.values and not note.exists():
+            fault_ = f"{note}: it is gone, so rows of {path} may be missing. Take it from a mirror"
         return dataclasses.replace(found, fault=fault_)
 
     def noted(self, archive: Path) -> tuple[int, str]:
@@ -92,10 +88,12 @@ class Form(Generic[T]):
         except (KeyError, TypeError, UnicodeDecodeError) as fault:
             raise ValueError(f"it is damaged: {fault!r}") from fault
 
-    def parsed(self, path: Path, text: bytes) -> Rows[T]:
-        """The rows of a book's whole lines; a last line without its end was cut off, and is none
-        yet.
+    def rows_there(self, archive: Path) -> Rows[T]:
+        """The rows of a book's whole lines, whatever its note says; a last line without its end was
+        cut off, and is none yet.
         """
+        path, _ = self.paths(archive)
+        text = path.read_bytes() if path.exists() else b""
         values: list[T] = []
         chains = [BEGIN]
         rows = catalogue.csv_rows(text[: text.rfind(b"\n") + 1].decode("utf-8", "replace"))
@@ -132,37 +130,49 @@ class Form(Generic[T]):
 
     def lost(self, archive: Path, recorded: Iterable[str]) -> list[str]:
         """The heads that desks have recorded of the book, and whose rows it lacks."""
-        path, _ = self.paths(archive)
-        found = self.parsed(path, path.read_bytes() if path.exists() else b"")
-        return heads.lost(self.kind, found.chains, recorded)
+        return heads.lost(self.kind, self.rows_there(archive).chains, recorded)
 
     # --- Writing, while the caller holds the archive
 
     def to_extend(self, archive: Path) -> Rows[T]:
-        """The rows for who appends some, which notes them too if their note is gone; a Fault if the
-        book is damaged.
-        """
-        found, note = self.read(archive), self.paths(archive)[1]
-        is_unnoted = found.values and note.parent.is_dir() and not self.noted(archive)[0]
-        if found.fault and not is_unnoted:
+        """The rows for who appends some; a Fault if something is wrong with the book."""
+        found = self.read(archive)
+        if found.fault:
             raise plant.Fault(found.fault)
         return found
 
     def extend(self, archive: Path, found: Rows[T], new: Sequence[T]) -> Rows[T]:
         """Appends rows to those that are there, waits until they are on disk, and notes them."""
-        path, note = self.paths(archive)
+        path, _ = self.paths(archive)
         rows: list[Sequence[str]] = [] if found.values else [self.header]
         chains = [BEGIN, *found.chains]
         for value in new:
             rows.append(self.whole(chains[-1], value))
             chains.append(rows[-1][-1])
+        if new and not found.values:
+            self.put_note(archive, [BEGIN])
         if new:
             append(path, catalogue.csv_text(rows), bool(found.values))
-        count = len(chains) - 1
-        if count != self.noted(archive)[0]:  # also of a call that was killed
-            text = json.dumps({"Rows": count, "Chain": chains[-1]})
-            files.put(note, f"{text}\n", 0o644)
+        if len(chains) - 1 != self.noted(archive)[0]:  # also of a call that was killed
+            self.put_note(archive, chains)
         return Rows([*found.values, *new], chains[1:])
+
+    def put_note(self, archive: Path, chains: Sequence[str]) -> None:
+        """Notes how many rows there are, by their chains from that of no row on."""
+        text = json.dumps({"Rows": len(chains) - 1, "Chain": chains[-1]})
+        files.put(self.paths(archive)[1], f"{text}\n", 0o644)
+
+    def settle(self, archive: Path) -> bool:
+        """Notes the rows that are there as all of them, which a person has decided; whether the
+        note was another one. A Fault if they aren't as they were written.
+        """
+        found = self.rows_there(archive)
+        if found.fault:
+            raise plant.Fault(found.fault)
+        is_wrong = bool(self.read(archive).fault)
+        if is_wrong:
+            self.put_note(archive, [BEGIN, *found.chains])
+        return is_wrong
 
 
 def append(path: Path, text: str, is_begun: bool) -> None:

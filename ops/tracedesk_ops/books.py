@@ -6,7 +6,7 @@ from __future__ import annotations
 import pathlib
 from typing import Any
 
-from tracedesk_ops import around, attributes, book, heads, places, untraced
+from tracedesk_ops import around, attributes, book, files, heads, places, untraced
 from tracedesk_ops.line import LineFolder
 
 Path = pathlib.Path
@@ -17,6 +17,14 @@ BOOKS: tuple[book.Form[Any], ...] = (untraced.BOOK, attributes.BOOK)
 def heads_of(archive: Path) -> list[str]:
     """The heads of a line's books, but of one that has no row, or is damaged."""
     return [uid for uid in (its.head_of(archive) for its in BOOKS) if uid]
+
+
+def settle(archive: Path) -> bool:
+    """Takes the rows that are there for all, which a person has decided; whether a note named
+    others.
+    """
+    with files.held(archive):
+        return any([its.settle(archive) for its in BOOKS])
 
 
 def record(archive: Path) -> bool:

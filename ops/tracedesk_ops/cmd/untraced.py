@@ -22,8 +22,8 @@ attributes of reels out of their receipts, into reels.csv, and writes untraced.j
 `status` of the line, if it is there, for the station. ID may be the beginning of an id, if no other
 has it. A refused load, splice or unload has a record too, and needs no decision. If a recall names
 pieces as doubtful because of it, and nothing was placed from that reel, decide --became 'taken
-off'. If a recall says that untraced.csv has not a row, and no copy has it, look for that work on
-paper, then decide lost.
+off'. If untraced.csv lacks a row, or a note of it or of reels.csv is gone, and no mirror has it,
+look for that work on paper, then decide lost: it takes the rows that are there for all.
 
 --line     the line's name or folder, where several are set up
 --became   scrapped, reworked, used as it is, sent again, or words of your own; of a refused reel,
@@ -108,8 +108,12 @@ def show(asked: argparse.Namespace) -> int:
 
 def decide(asked: argparse.Namespace) -> int:
     try:
+        is_settled = asked.id == untraced.LOST and books.settle(asked.archive)
         records, _, _ = collecting.collect(asked.archive)
-        for it in ids_of(asked, records):
+        ids = ids_of(asked, records) or [untraced.LOST] * is_settled
+        if not ids:
+            raise plant.Fault("no row is lost that a desk has recorded, or a note names")
+        for it in ids:
             collecting.decide(asked.archive, it, asked.by, asked.became, asked.reason)
         tell_station(asked, untraced.read(asked.archive).records)
         return 0
@@ -121,10 +125,7 @@ def decide(asked: argparse.Namespace) -> int:
 def ids_of(asked: argparse.Namespace, records: list[untraced.Record]) -> list[str]:
     """About what somebody decides: the record whose id begins so, or each head of lost rows."""
     if asked.id == untraced.LOST:
-        ids = untraced.lost(asked.archive, around.recorded(LineFolder(asked.archive.parent)))
-        if not ids:
-            raise plant.Fault("no row is lost that a desk has recorded")
-        return ids
+        return untraced.lost(asked.archive, around.recorded(LineFolder(asked.archive.parent)))
     known = [*untraced.refused(records), *untraced.differing(records)]
     ids = [it.id for it in known if it.id.startswith(asked.id)]
     if len(ids) != 1:
