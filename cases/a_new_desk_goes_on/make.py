@@ -83,9 +83,7 @@ NEW: list[Any] = [(400, *it, {}) for it in SETUP] + [
     (1700, "ReelOpened", {"Reel": "K5"}, {}),
     (1940, "ReelOpened", {"Reel": "K3"}, {}),
     (2000, "ReelSealed", {"Reel": "K5"}, {}),
-    # desk-begun: the new desk says that it was begun from another. Its minute moves no clock
-    # Without it u20 would have number 20 in both
-    (0, "ClockSet", {}, {}),
+    (2000, "ClockSet", {}, {}),  # without it u20 would have number 20 in both
 ]
 KNOWN = [
     (f"u{n}", minute) for n, (minute, *_) in reversed(list(enumerate(OLD, 1)))
@@ -94,10 +92,10 @@ ALL = len(NEW) + len(KNOWN) + 1  # the last command is a ClockSet of its own
 
 
 def own(number: int) -> str:
-    """The UniqueID of a message that begins the new desk; all but the last name the checksum of the
-    old desk's file, which is the same in each run.
+    """The UniqueID of a message that begins the new desk: it names the checksum of the old desk's
+    file, which is the same in each run.
     """
-    return "desk-begun" if number == len(NEW) else f"begin-fd09d4110d58226e648b787d-{number}"
+    return f"begin-fd09d4110d58226e648b787d-{number}"
 
 
 def begun(uid: str, minute: int, word: str, body: Any, source: str = "begin") -> str:
@@ -105,7 +103,7 @@ def begun(uid: str, minute: int, word: str, body: Any, source: str = "begin") ->
     envelope = {
         "MessageName": "TraceDesk." + word,
         "UniqueID": uid,
-        "Source": "tracedesk" if uid == "desk-begun" else source,
+        "Source": source,
     }
     return text({**envelope, "TimeStamp": stamp(minute).removesuffix("Z"), "MessageBody": body})
 

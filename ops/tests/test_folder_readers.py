@@ -11,7 +11,7 @@ import pytest
 from lab import files
 from lab.desk import rows_of
 from lab.folders import audit, line_of, rolled_over, seal
-from tracedesk_ops import around, change, model, plant, sealed, sealed_watch
+from tracedesk_ops import around, change, plant, sealed_watch
 from tracedesk_ops.line import LineFolder
 
 Path = pathlib.Path
@@ -112,8 +112,7 @@ def test_a_newer_file_of_another_desk_says_nothing_of_the_age(line: LineFolder) 
         [*sealed_watch.newest(line.sealed, ours.__contains__)]
 
 
-def test_the_watch_knows_the_newest_seal_and_the_archives(line: LineFolder) -> None:
-    (archive,) = survey(line).archives
+def test_the_watch_knows_the_newest_seal(line: LineFolder) -> None:
     for path in line.sealed.iterdir():
         os.utime(path, (1_000_000, 1_000_000))
     before = time.time()
@@ -121,32 +120,6 @@ def test_the_watch_knows_the_newest_seal_and_the_archives(line: LineFolder) -> N
     samples = {name: value for name, value, _ in sealed_watch.newest(line.sealed, has_all)}
     assert before - 1 <= samples["backup_timestamp_seconds"] <= time.time()
     assert samples["backup_commands"] == newest.commands and samples["backup_pieces"] == 0
-    samples = {
-        name: value for name, value, _ in sealed_watch.archives(line.sealed, lambda _: False)
-    }
-    assert samples["archive_commands"] == 2
-    assert samples["rollover_timestamp_seconds"] == 60 * archive.last_minute
     os.utime(newest.path, (time.time() + 3600,) * 2)
     with pytest.raises(plant.Fault, match="in the future"):
         [*sealed_watch.newest(line.sealed, has_all)]
-
-
-def test_the_watch_knows_an_archive_that_only_the_running_desk_names(line: LineFolder) -> None:
-    rolled_over(line)
-    digits = sealed.begun_in(line.desk)
-
-    def has(uid: str) -> bool:
-        return uid in (model.BEGUN, model.first_uid(digits))
-
-    (_, commands, _), *_ = list(sealed_watch.archives(line.sealed, has))[1:]
-    assert commands == 2 + sealed.read(line.sealed / f"{digits}.desk").commands
-    (line.sealed / f"{digits}.desk").unlink()
-    with pytest.raises(plant.Fault, match="lacks the file"):
-        [*sealed_watch.archives(line.sealed, has)]
-
-
-def test_the_watch_misses_an_archive(line: LineFolder) -> None:
-    (archive,) = survey(line).archives
-    (line.sealed / archive.file).unlink()
-    with pytest.raises(plant.Fault, match=f"{archive.file} is missing"):
-        [*sealed_watch.archives(line.sealed, lambda _: False)]

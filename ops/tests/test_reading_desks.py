@@ -24,7 +24,7 @@ SLOTS_HEADER = "slot,position,reel,part,lot,remaining,minutes_left\n"
 SLOTS = (
     SLOTS_HEADER + "1,1,K1,P,L1,100,unlimited\n"
 )  # the last message of the first line loads a reel
-LINES_OF_BEGIN = 12  # five messages, five UniqueIDs, that the desk was begun, and a ClockSet
+LINES_OF_BEGIN = 11  # five messages, five UniqueIDs, and a ClockSet
 
 
 def ask(file: pathlib.Path, target: str) -> Ended:

@@ -101,8 +101,6 @@ def test_without_sealed_files_or_a_clock_nothing_is_told_of_them(its: Watched) -
         its.metrics(),
         backup_timestamp_seconds=None,
         backup_commands=None,
-        rollover_timestamp_seconds=None,
-        archive_commands=None,
         clock_commands=None,
         watch_source_up__backup=1,
     )

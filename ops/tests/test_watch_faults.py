@@ -157,7 +157,7 @@ def test_a_source_that_is_spoilt_hides_no_other(its: Watched, name: str) -> None
         kept.callback(file.unlink)
         file.write_text('{"half":')
         found, told = its.look()
-    others = {*SOURCES, "backup", "archive", "service", "file"} - {name}
+    others = {*SOURCES, "backup", "service", "file"} - {name}
     expect(found, **{f"watch_source_up__{other}": 1 for other in others}, up=1, overdue_pieces=2)
     expect(found, **{f"watch_source_up__{name}": 0})
     assert f"watch: {name}: " in told
@@ -169,7 +169,7 @@ def test_a_sealed_file_that_is_spoilt_hides_no_other_source(its: Watched) -> Non
     file.write_text('{"half":')
     found = its.metrics()
     shutil.rmtree(file.parent)
-    expect(found, watch_source_up__backup=0, watch_source_up__archive=0, overdue_pieces=2)
+    expect(found, watch_source_up__backup=0, overdue_pieces=2)
     expect(found, watch_source_up__clock=1, watch_source_up__reports=1, up=1)
 
 

@@ -238,8 +238,7 @@ def begun(
     carrier.all()
     if at is not None and at > end:
         messages.say(at, "ClockSet")
-    uids = dict.fromkeys([*archive.heads, model.BEGUN])
-    names = [(archive.numbers.get(uid, 0), uid, model.SOURCE, 0) for uid in uids]
+    names = [(archive.numbers[uid], uid, model.SOURCE, 0) for uid in archive.heads]
     room = (
         max(0, archive.greatest - len(messages.lines)) // 2
     )  # a desk of few commands has room for its own

@@ -24,9 +24,6 @@ tracedesk_next_start_estimate_seconds gauge An estimate of how long the next sta
 tracedesk_backup_timestamp_seconds gauge When the desk was sealed last, by the file's time.
 tracedesk_backup_commands gauge Accepted commands in the newest sealed file.
 tracedesk_backup_pieces gauge Placed pieces in the newest sealed file, by its tables.
-tracedesk_rollover_timestamp_seconds gauge Minute of the last command of the file from which the running desk began.
-tracedesk_archive_commands gauge Accepted commands of all files from which a desk was begun.
-tracedesk_archive_pieces gauge Placed pieces of all files from which a desk was begun.
 tracedesk_clock_timestamp_seconds gauge Minute of the last ClockSet of the idle clock that the desk accepted.
 tracedesk_clock_commands gauge Accepted commands of the desk at that moment: the Number in its answer.
 tracedesk_sender_waiting gauge Messages that wait at the sender, by its status.

@@ -13,8 +13,6 @@ SEALED = "sealed"  # the folder of a line's sealed files
 INBOX = "untraced"  # next to it: where senders put records of untraced work
 STATUS = "status"  # next to it: what senders and tracedesk-untraced say of themselves
 DIGITS = 24  # of a file's SHA-256: in its name, and in the desk that was begun from it
-# a desk that was begun from a file has it, so that a running one can be asked
-BEGUN = "desk-begun"
 BOOKS = ("untraced", "reels")  # the first word of the UniqueID of a book's head
 LONGEST_NAME = 59  # letters of a line's name
 

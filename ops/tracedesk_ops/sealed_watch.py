@@ -14,7 +14,6 @@ Samples = Iterator[tuple[str, float, dict[str, str]]]
 
 FUTURE = 300  # seconds that a clock may have been set back
 PIECES = "SELECT coalesce(sum(placed), 0) FROM reel"
-LAST_MINUTE = "SELECT max(effective) FROM accepted"
 LAST_UID = "SELECT uid FROM accepted ORDER BY number DESC LIMIT 1"
 
 
@@ -36,25 +35,6 @@ def newest(folder: Path, has: Callable[[str], bool]) -> Samples:
     yield "backup_timestamp_seconds", int(times[path]), {}
     yield "backup_commands", commands_in(path), {}
     yield "backup_pieces", number_in(path, PIECES), {}
-
-
-def archives(folder: Path, has: Callable[[str], bool]) -> Samples:
-    """Of the files from which a desk was begun. `has` says whether the running desk has a
-    UniqueID.
-    """
-    paths = {path.stem: path for path in sealed.paths_in(folder)}
-    begun = {sealed.begun_in(path) for path in paths.values()} - {""}
-    begun |= {digits for digits in paths if digits not in begun and has(model.first_uid(digits))}
-    if has(model.BEGUN) and not any(has(model.first_uid(digits)) for digits in begun):
-        raise plant.Fault(f"{folder} lacks the file from which the running desk was begun")
-    if missing := sorted(begun - paths.keys()):
-        raise plant.Fault(f"{folder}: {missing[0]}.desk is missing: take it from a mirror")
-    those = [paths[digits] for digits in begun]
-    if those:
-        last = max(number_in(path, LAST_MINUTE) for path in those)
-        yield "rollover_timestamp_seconds", 60 * last, {}
-    yield "archive_commands", sum(map(commands_in, those)), {}
-    yield "archive_pieces", sum(number_in(path, PIECES) for path in those), {}
 
 
 def commands_in(path: Path) -> int:

@@ -145,7 +145,6 @@ class Watch:
             ("service", self.service),
             ("file", self.file),
             ("backup", self.backup),
-            ("archive", self.archive),
             ("clock", self.clock),
             ("status", self.status),
         ):
@@ -222,11 +221,6 @@ class Watch:
         if is_there(self.sealed):
             has = self.desk.has if self.is_up else lambda _: True
             yield from sealed_watch.newest(self.sealed, has)
-
-    def archive(self) -> metrics.Samples:
-        has = self.desk.has if self.is_up else lambda _: False
-        if is_there(self.sealed):
-            yield from sealed_watch.archives(self.sealed, has)
 
     def clock(self) -> metrics.Samples:
         """The answer that the idle clock had last, if it is on."""
