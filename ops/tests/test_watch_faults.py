@@ -16,7 +16,6 @@ pytestmark = [pytest.mark.needs("nginx", "openssl"), pytest.mark.xdist_group("wa
 JSON = "application/json"
 OVERDUE = "board,designator,reel,minute\n"
 SLOTS = "slot,position,reel,part,lot,remaining,minutes_left\n"
-ROW = "1,1,K,P,L,7,unlimited\n"
 
 
 @pytest.fixture(scope="module")
@@ -79,34 +78,26 @@ def head(
 
 
 NO_REEL = head('{"Answer":"NotFound","Kind":"Reel"}', status="404 Not Found", kind=JSON)
-UNAVAILABLE = head('{"Answer":"Unavailable"}', status="503 Service Unavailable", kind=JSON)
-# what a port says of the overdue list
-OVERDUES = {
-    "half an overdue list": head(f"{OVERDUE}B,C1,K,2026-03-02T06:00:00Z\n", 900),
-    "a row that was cut": head(f"{OVERDUE}B,C1\n"),
-    "a last line that was cut": head(f"{OVERDUE}B,C1,K,2026"),
-    "fewer columns": head("board,reel\nB,K\n"),
-    "another column": head("board,designator,reel,lot\nB,C1,K,L\n"),
-    "no answer but an end": b"",
-    "503": UNAVAILABLE,
-}
-# what it says of slots
-LISTS = {
-    "a number that is none": head(SLOTS + ROW.replace("7", "many")),
-    "half a list of slots": head(SLOTS + ROW, 900),
-}
-# what it says of a reel, which shows whether it is a desk
-PROBES = {
-    "half a head": b"HTTP/1.1 404 Not",
-    "another program's page": head("<html></html>", kind="text/html"),
-    "another program's 404": head("nothing here", status="404 Not Found"),
-    "no HTTP": b"SSH-2.0-OpenSSH_9.2\r\n",
+ANSWERS: dict[str, tuple[dict[str, bytes], bool, Optional[int]]] = {
+    # what a port says of each path, whether that is a desk, and the overdue pieces
+    "half an overdue list": (
+        {"/reel": NO_REEL, "/overdue": head(f"{OVERDUE}B,C1,K,2026-03-02T06:00:00Z\n", 900)},
+        True,
+        None,
+    ),
+    "half a list of slots": (
+        {"/reel": NO_REEL, "/kit": NO_REEL, "/overdue": head(OVERDUE), "/slots": head(SLOTS, 900)},
+        True,
+        0,
+    ),
+    "another program's page": ({"/reel": head("<html></html>", kind="text/html")}, False, None),
 }
 
 
-def expect_no_report(
-    its: Watched, answers: dict[str, bytes], is_up: bool, overdue: Optional[int]
-) -> None:
+@pytest.mark.parametrize("name", ANSWERS)
+def test_no_number_is_of_half_a_report_or_of_another_program(its: Watched, name: str) -> None:
+    """Tests of the package's client try what else is no report."""
+    answers, is_up, overdue = ANSWERS[name]
     with saying(answers) as port:
         found, told = its.look(port=port)
     assert told
@@ -118,22 +109,6 @@ def expect_no_report(
         watch_source_up__reports=0,
         watch_source_up__file=1,
     )
-
-
-@pytest.mark.parametrize("name", OVERDUES)
-def test_no_number_is_of_half_an_overdue_list(its: Watched, name: str) -> None:
-    expect_no_report(its, {"/reel": NO_REEL, "/overdue": OVERDUES[name]}, True, None)
-
-
-@pytest.mark.parametrize("name", LISTS)
-def test_no_number_is_of_half_a_list_of_slots(its: Watched, name: str) -> None:
-    answers = {"/reel": NO_REEL, "/kit": NO_REEL, "/overdue": head(OVERDUE), "/slots": LISTS[name]}
-    expect_no_report(its, answers, True, 0)
-
-
-@pytest.mark.parametrize("name", PROBES)
-def test_what_is_no_desk_is_not_up(its: Watched, name: str) -> None:
-    expect_no_report(its, {"/reel": PROBES[name]}, False, None)
 
 
 # --- Each source
