@@ -12,7 +12,6 @@ pytestmark = [pytest.mark.root, pytest.mark.xdist_group("machine")]
 
 CONNECT = ROOT / "docs/connect.md"
 C_LIBRARY = {"libc.so.6", "libm.so.6", "libgcc_s.so.1", "ld-linux-x86-64.so.2"}
-UNITS = "/lib/systemd/system"  # of the .deb
 KEPT = "/var/lib/tracedesk /var/lib/tracedesk-send /etc/tracedesk-send"
 SUMS = f"find {KEPT} -type f -print0 | sort -z | xargs -0 sha256sum"
 BROUGHT = (
@@ -20,15 +19,6 @@ BROUGHT = (
     " /etc/nginx/sites-*/tracedesk /usr/share/doc/tracedesk*"
     " /usr/lib/python3/dist-packages/tracedesk /usr/share/man/man1/tracedesk*"
 )
-CHECKED = """
-systemctl stop tracedesk
-cd /var/lib/tracedesk
-chown root desk; chmod 600 desk
-tracedesk-ops check L1 2>&1 || echo "status $?"
-chown tracedesk desk
-tracedesk-ops check L1
-systemctl start tracedesk
-"""
 DESK = "/var/lib/tracedesk/desk"
 
 
@@ -61,10 +51,6 @@ def test_both_programs_run_with_the_c_library_alone(
 
 
 # --- The service
-
-
-def test_units_have_no_fault(machine: Machine) -> None:
-    machine.shell(f"systemd-analyze verify {UNITS}/tracedesk*.service {UNITS}/tracedesk*.timer")
 
 
 def test_the_service_has_no_privileges(machine: Machine) -> None:
@@ -119,19 +105,6 @@ def test_who_holds_the_desks_connection_is_seen(machine: Machine) -> None:
         held.communicate()
     assert '"sleep"' in said and "timed out" in said
     machine.wait_for_desk()
-
-
-def test_faults_of_the_desks_file_are_named(machine: Machine) -> None:
-    """Whose it is, and that it is sound."""
-    said = machine.restart(CHECKED)
-    wanted = (
-        rf"tracedesk-ops: no permission: tracedesk may not read {DESK},"
-        r" which belongs to user root and has mode 600: .*\n"
-        r"tracedesk-ops: no permission: tracedesk may not write .*\n"
-        r"status 1\n"
-        r"/var/lib/tracedesk: sound, \d+ files, \d+ commands\n"
-    )
-    assert re.fullmatch(wanted, said)
 
 
 # --- Integration, and the end

@@ -1,6 +1,4 @@
 """A line on a fresh Debian 12: roll-overs, restores, recalls, the watch and the clock."""
-import json
-import re
 
 import pytest
 from lab.installed import archives_of, metrics_of
@@ -11,19 +9,6 @@ pytestmark = [pytest.mark.root, pytest.mark.xdist_group("machine")]
 
 LOT = "tracedesk-recall lot L-77 --line L1 /var/lib/tracedesk"
 REPORT = "/trace/lot?lot=L-77&detail=4"
-CLOCK_ALONE = r"""
-mkdir -p /root/idle; rm -f /root/idle/desk*
-tracedesk serve --db /root/idle/desk --port 8090 --connections 9 > /dev/null & at=$!
-for n in $(seq 600); do curl -s http://127.0.0.1:8090/overdue > /dev/null && break; sleep 0.1; done
-at_unit=/run/systemd/system/tracedesk-clock@desk.service.d; mkdir -p $at_unit
-call='/usr/bin/tracedesk-clock --url http://127.0.0.1:8090 --synced "echo %s"'
-printf '[Service]\nExecStart=\nExecStart=%%s\n' "$call" > $at_unit/tried.conf
-systemctl daemon-reload
-systemctl start tracedesk-clock@desk || systemctl show -P ExecMainStatus tracedesk-clock@desk
-cat /run/tracedesk-clock/desk.json || true
-kill $at; wait $at || true
-rm -r $at_unit; systemctl daemon-reload; systemctl reset-failed tracedesk-clock@desk || true
-"""
 CLOCK_RUNS = r"""
 at_unit=/run/systemd/system/tracedesk-clock@.service.d; mkdir -p $at_unit
 printf '[Service]\nExecStart=\nExecStart=/bin/true\n' > $at_unit/none.conf
@@ -59,17 +44,6 @@ def rows_in(text: str) -> list[str]:
 def sealed(machine: Machine) -> set[str]:
     """The checksum and name of each sealed file."""
     return set(machine.shell(f"sha256sum {ARCHIVE}/*.desk").splitlines())
-
-
-def test_a_roll_over_keeps_the_archives_before(machine: Machine) -> None:
-    """And it is refused where the desk has taken nothing since."""
-    before = archives_of(machine, 1)
-    assert machine.post("kept") == "200"
-    machine.restart("tracedesk-ops rollover L1 2>&1")
-    after = archives_of(machine, 1)
-    assert after[: len(before)] == before and len(after) == len(before) + 1
-    assert "has taken no command" in machine.shell("! tracedesk-ops rollover L1 2>&1")
-    assert archives_of(machine, 1) == after
 
 
 def test_a_restore_brings_a_desk_back(machine: Machine) -> None:
@@ -140,13 +114,6 @@ def test_the_watch_sees_a_desk_that_is_well(machine: Machine) -> None:
     assert owner == "tracedesk-watch 644"
 
 
-def test_the_watch_sees_a_desk_that_is_drained(machine: Machine) -> None:
-    machine.shell("touch /run/tracedesk-drained")
-    found = metrics_of(machine)["tracedesk_drained"], health(machine)
-    machine.shell("rm /run/tracedesk-drained")
-    assert found == ("1", "503")
-
-
 def test_the_watch_sees_a_desk_that_is_stopped(machine: Machine) -> None:
     machine.shell("systemctl stop tracedesk")
     wait_for("/health says so", lambda: health(machine) == "503")
@@ -161,17 +128,3 @@ def test_the_idle_clock_runs_with_the_desk(machine: Machine) -> None:
     """Its timer begins and ends with the desk's service, and begins nothing once it is masked."""
     assert machine.restart(CLOCK_RUNS).split()[-2:] == ["active", "inactive"]
     assert machine.shell("systemctl is-active tracedesk-clock.timer || true").strip() == "inactive"
-
-
-def test_the_idle_clock_tells_a_desk_of_its_own(machine: Machine) -> None:
-    """Where the machine's clock is said to be in sync, and not where it isn't."""
-    not_sent = machine.shell(CLOCK_ALONE % "no")
-    assert "\n3\n" in f"\n{not_sent}" and "Accepted" not in not_sent
-    journal = "journalctl --unit tracedesk-clock@desk --output cat | grep -q 'not in sync'"
-    sent = re.search(r"^\{.*", machine.shell(CLOCK_ALONE % "yes"), re.MULTILINE)
-    assert sent
-    said = json.loads(sent[0])
-    assert (said["Answer"], said["Number"]) == ("Accepted", 1)
-    assert metrics_of(machine)["tracedesk_clock_commands"] == "1"
-    machine.shell(f"rm /run/tracedesk-clock/desk.json; {journal}")
-    assert "tracedesk_clock_commands" not in metrics_of(machine)

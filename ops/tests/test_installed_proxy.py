@@ -9,8 +9,6 @@ from lab.machine import CURL, JSON, M1, OFFICE, URL, Machine, part, run
 
 pytestmark = [pytest.mark.root, pytest.mark.xdist_group("machine")]
 
-BAD = '400\n{"Answer":"Proxy","Fault":"BadRequest"}'
-COME_AGAIN = '503\n{"Answer":"Proxy","Fault":"ComeAgain"}'
 OTHER = """openssl req -x509 -newkey ec -pkeyopt ec_paramgen_curve:P-256 -nodes -days 9
     -subj /CN=m2 -keyout /tmp/other.key -out /tmp/other.crt""".replace(
     "\n", " "
@@ -32,7 +30,6 @@ ASKED = {  # a request, and its status
     f"--cert /tmp/other.crt --key /tmp/other.key {MESSAGE} {SEND}": "400",
     f"{M1} -H 'Authorization: Basic x' {URL}/nowhere": "401",
 }
-LONG_HEAD = f"-H \"X: $(head -c 40000 /dev/zero | tr '\\0' x)\" {URL}/overdue"
 MANY_CLIENTS = r"""
 import base64, http.client, socket, ssl, time
 trust = ssl.create_default_context(cafile="/etc/tracedesk/server.crt")
@@ -96,27 +93,6 @@ with tempfile.TemporaryDirectory() as room:
 def test_a_log_in_is_asked_for(machine: Machine, words: str) -> None:
     machine.shell(OTHER)
     assert machine.ask(words) == ASKED[words]
-
-
-def test_a_wrong_password_is_answered_in_json(machine: Machine) -> None:
-    said = machine.ask(f"--user m1:wrong {URL}/overdue", body=True)
-    assert said == '401\n{"Answer":"Proxy","Fault":"LogIn"}'
-
-
-def test_bodies_have_a_limit(machine: Machine) -> None:
-    """1,048,576 bytes pass, and one more doesn't."""
-    for name, size in (("fits", 1_048_576), ("long", 1_048_577)):
-        machine.by_client(f"printf '%-{size}s' '{part('W')}' > /tmp/{name}")
-    too_large = '413\n{"Answer":"Faulty","Fault":"BodyTooLarge"}'
-    assert machine.ask(f"{M1} --data-binary @/tmp/long {SEND}", body=True) == too_large
-    assert machine.ask(f"{M1} -H 'Expect:' --data-binary @/tmp/fits {SEND}") == "200"
-
-
-@pytest.mark.parametrize(
-    "words", ["http://desk.plant:443/overdue", f"{M1} {LONG_HEAD}"], ids=["plain HTTP", "long head"]
-)
-def test_what_is_no_request_is_answered_in_json(machine: Machine, words: str) -> None:
-    assert machine.ask(words, body=True) == BAD
 
 
 @pytest.mark.parametrize("port", [8080, 8081])

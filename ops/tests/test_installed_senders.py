@@ -1,7 +1,5 @@
 """The sender on a fresh Debian 12 loses nothing by kills, roll-overs and a wrong log-in."""
-import re
 import subprocess
-import time
 
 import pytest
 from lab.machine import ARCHIVE, Machine, part
@@ -12,24 +10,6 @@ pytestmark = [pytest.mark.root, pytest.mark.xdist_group("machine")]
 SEND = "tracedesk-send --url https://desk.plant --ca /etc/tracedesk/server.crt"
 BY_PASSWORD = "--user m1 --password-file /etc/tracedesk/m1.password"
 FILES = "/tmp/sent.jsonl /tmp/sent.answers"
-MESSAGES, KILLS = 1000, 20  # of each
-# how each is killed as by a power cut, and started if nothing else does it
-KILLED = {
-    "sender": "kill -KILL $(cat /tmp/sender.pid) || true",
-    "proxy": (
-        "systemctl kill --kill-whom=all --signal=KILL nginx; sleep 1;"
-        " systemctl reset-failed nginx; systemctl start nginx"
-    ),
-    "desk": "systemctl kill --signal=KILL tracedesk",
-}
-FOLLOWER = f"""
-mkdir -p /tmp/out; rm -f /tmp/sender.ended
-until [ -e /tmp/sender.ended ]; do
-  {SEND} {BY_PASSWORD} --stop-at-refusal --spool /tmp/spool --follow /tmp/out \\
-    > /tmp/sender.txt 2>&1 &
-  echo $! > /tmp/sender.pid; wait $! 2> /dev/null || true
-done
-"""
 ACCEPTED = """
 import pathlib
 from tracedesk_ops import around, copies, line, sealed
@@ -64,40 +44,6 @@ def begin(machine: Machine, words: str) -> subprocess.Popen[str]:
     return machine.started(f"{SEND} {words} {FILES} 2>&1; echo status $?", by_client=True)
 
 
-def expect_sent(machine: Machine, words: str, status: int, lines: int, said: str = "") -> None:
-    """Looks whether the sender ends with this status and so many lines of answers."""
-    call = f"{SEND} {words} {FILES} 2>&1 && echo status 0 || echo status $?"
-    got = machine.by_client(f"{call}; wc -l < /tmp/sent.answers")
-    assert got.endswith(f"status {status}\n{lines}\n") and said in got
-
-
-def test_what_the_proxy_says_for_the_desk_is_no_answer(machine: Machine) -> None:
-    refused = part("S2").replace("PartDefined", "ReelOpened").replace("PartNumber", "Reel")
-    write_messages(machine, part("S0"), part("S1"), refused, part("S3").ljust(1_048_576))
-    machine.shell("systemctl stop tracedesk")
-    expect_sent(machine, f"{BY_PASSWORD} --patience 1", 3, 0, "status 502")
-    tried = "grep -c '/messages HTTP/1.1\" 502 ' /var/log/nginx/tracedesk.log"
-    before = int(machine.shell(tried))
-    waiting = begin(machine, f"{BY_PASSWORD} --stop-at-refusal")
-    wait_for("it has tried", lambda: int(machine.shell(tried)) > before)
-    machine.restart("systemctl start tracedesk")
-    said, _ = waiting.communicate()
-    assert "UnknownReel" in said and " 0 times sent again" not in said
-    wrong = "--user m1 --password-file /etc/tracedesk/office.password"
-    expect_sent(machine, wrong, 4, 2, "log-in")
-    machine.shell(
-        "openssl req -x509 -newkey ec -pkeyopt ec_paramgen_curve:P-256 -nodes -days 9 -subj /CN=m2"
-        " -keyout /tmp/other.key -out /tmp/other.crt"
-    )
-    bad = '{"Answer":"Proxy","Fault":"BadRequest"}'
-    expect_sent(machine, "--cert /tmp/other.crt --key /tmp/other.key", 4, 2, bad)
-    expect_sent(machine, f"{BY_PASSWORD} --stop-at-refusal", 1, 2, "UnknownReel")
-    own = "--cert /etc/tracedesk/m2.crt --key /etc/tracedesk/m2.key"
-    expect_sent(machine, own, 0, 4, " 0 times sent again")
-    machine.shell(f"printf '%-1048577s\\n' '{part('S4')}' >> /tmp/sent.jsonl")
-    expect_sent(machine, BY_PASSWORD, 0, 5, "LineTooLong")
-
-
 def test_a_sender_goes_on_over_a_roll_over_and_a_copy(machine: Machine) -> None:
     """Each message is taken, and none twice."""
     write_messages(machine, *(part(f"R{number}") for number in range(600)))
@@ -109,33 +55,6 @@ def test_a_sender_goes_on_over_a_roll_over_and_a_copy(machine: Machine) -> None:
     assert "status 0" in said
     assert machine.shell("grep -c Accepted /tmp/sent.answers").strip() == "600"
     assert accepted(machine, "t-R%") == [600, 600]
-
-
-def test_a_thousand_messages_under_kills_are_taken_once_and_in_order(machine: Machine) -> None:
-    """A follower sends through TLS while it, nginx and the desk are killed in turn."""
-    machine.shell("rm -rf /tmp/out /tmp/spool* /tmp/sender.*; mkdir /tmp/out")
-    texts = [part(f"K{number:04}") for number in range(MESSAGES)]
-    machine.write("".join(f"{text}\n" for text in texts), "/tmp/out/1.tmp")
-    machine.shell("mv /tmp/out/1.tmp /tmp/out/1.jsonl")
-    sending, kills = machine.started(FOLLOWER, by_client=True), dict.fromkeys(KILLED, 0)
-    wait_for("it follows", lambda: machine.shell("cat /tmp/sender.pid 2> /dev/null || true"))
-    answered = "tracedesk-send --spool /tmp/spool --list all | grep Answer || true"
-
-    def kill_one() -> bool:
-        assert sending.poll() is None, machine.shell("cat /tmp/sender.txt")
-        what = min(kills, key=lambda name: kills[name])
-        if kills[what] < KILLS:  # then it gets ready, however busy the machine is
-            machine.shell(KILLED[what])
-            kills[what] += 1
-        time.sleep(2)
-        return int(machine.shell(f"({answered}) | wc -l")) >= MESSAGES
-
-    wait_for("all are answered", kill_one, 3600)
-    machine.shell("touch /tmp/sender.ended; kill -TERM $(cat /tmp/sender.pid)")
-    sending.communicate()
-    numbers = [int(text) for text in re.findall(r'"Number":(\d+)', machine.shell(answered))]
-    assert len(numbers) == MESSAGES and numbers == sorted(set(numbers))
-    assert accepted(machine, "t-K____") == [MESSAGES, MESSAGES]
 
 
 class Unit:

@@ -10,7 +10,7 @@ from typing import Callable, Iterator
 
 import pytest
 from lab import ROOT
-from lab.installed import archives_of, metrics_of
+from lab.installed import metrics_of
 from lab.machine import ARCHIVE, JSON, URL, Machine, part
 from lab.waits import wait_for
 
@@ -94,31 +94,6 @@ def test_tracedesk_send_of(machine: Machine, journal: Callable[[str], None]) -> 
     answered = f"tracedesk-send --spool {at}/spool --list sent | grep each-send || true"
     wait_for("the answer", lambda: "Accepted" in machine.shell(answered))
     journal("tracedesk-send@m1")
-
-
-def test_tracedesk_line_seal(machine: Machine, journal: Callable[[str], None]) -> None:
-    assert machine.post("each-seal") == "200"
-    before = machine.shell(f"ls {ARCHIVE}/*.desk").split()
-    ran(machine, "tracedesk-line-seal@L1")
-    assert len(set(machine.shell(f"ls {ARCHIVE}/*.desk").split()) - set(before)) == 1
-    journal("tracedesk-line-seal@L1")
-
-
-def test_tracedesk_line_rollover(machine: Machine, journal: Callable[[str], None]) -> None:
-    """As its timer calls it, but for how many pieces make it due."""
-    before = archives_of(machine, 1)
-    assert machine.post("each-rollover") == "200"
-    at = "/run/systemd/system/tracedesk-line-rollover@.service.d"
-    call = "/usr/bin/tracedesk-ops rollover %i --if-due --pieces 0"
-    machine.write(f"[Service]\nExecStart=\nExecStart={call}\n", f"{at}/due.conf")
-    try:
-        machine.shell("systemctl daemon-reload")
-        ran(machine, "tracedesk-line-rollover@L1")
-    finally:
-        machine.shell(f"rm -r {at}; systemctl daemon-reload")
-    machine.wait_for_desk()
-    assert len(archives_of(machine, 1)) == len(before) + 1
-    journal("tracedesk-line-rollover@L1")
 
 
 def test_tracedesk_watch(machine: Machine, journal: Callable[[str], None]) -> None:
