@@ -202,6 +202,21 @@ LOST: dict[str, Callable[[Line], None]] = {
 }
 
 
+def set_up(line: Line) -> dict[str, str]:
+    """The environment of tools that know the line by its set-up file."""
+    folder = line.folder.parent / "set-up"
+    folder.mkdir(exist_ok=True)
+    words = {"line": "L1", "db": line.file, "port": line.port}
+    text = "".join(f"{name} = {value}\n" for name, value in words.items())
+    (folder / "L1.conf").write_text(text)
+    return {"TRACEDESK_SET_UP": str(folder)}
+
+
+def sealed(line: Line) -> Ended:
+    """A seal, which lets the line's desk record what its books have."""
+    return line.seal(env=set_up(line))
+
+
 def untraced_tool(line: Line, *words: Word) -> Ended:
     return run_tool("untraced", *words, "--line", line.folder)
 
@@ -218,11 +233,11 @@ def boards(done: Ended) -> list[str]:
 def test_lost_rows_are_noticed_after_roll_overs(line: Line, how: str) -> None:
     """Board B4 is in none of the rows that are there, and each recall lacks it."""
     given(line.archive, FIRST)
-    line.seal().expect()
+    sealed(line).expect()
     older = taken(line)
     refused(line.archive, 4)
     given(line.archive, MENDED)
-    line.seal().expect()
+    sealed(line).expect()
     line.recall("--show", "untraced").expect(3, "B4")
     put(older)
     LOST[how](line)
@@ -231,7 +246,7 @@ def test_lost_rows_are_noticed_after_roll_overs(line: Line, how: str) -> None:
         asked(line).expect(3, f"reels.csv: {LACKED}")
         line.more(name)
         line.rollover().expect()
-    line.seal().expect(4, f"untraced.csv: {LACKED}", f"reels.csv: {LACKED}")
+    sealed(line).expect(4, f"untraced.csv: {LACKED}", f"reels.csv: {LACKED}")
     untraced_tool(line, "list").expect(3, LACKED)
     run_tool("reels", "list", "--line", line.folder).expect(3, LACKED)
 
@@ -242,7 +257,7 @@ def test_a_person_decides_about_rows_that_no_copy_has(line: Line, has_note: bool
     book, _ = untraced.BOOK.paths(line.archive)
     older = book.read_bytes()
     refused(line.archive, 4)
-    line.seal()
+    sealed(line)
     if has_note:
         book.write_bytes(older)
     else:
@@ -254,19 +269,9 @@ def test_a_person_decides_about_rows_that_no_copy_has(line: Line, has_note: bool
     untraced_tool(line, "decide", "lost", *person).expect()
     untraced_tool(line, "list").expect()
     line.recall(lot="L-3").expect()
-    line.seal().expect()
+    sealed(line).expect()
     none = untraced_tool(line, "decide", "lost", *person)
     none.expect(3, "no row is lost that a desk has recorded")
-
-
-def set_up(line: Line) -> dict[str, str]:
-    """The environment of tools that know the line by its set-up file."""
-    folder = line.folder.parent / "set-up"
-    folder.mkdir(exist_ok=True)
-    words = {"line": "L1", "db": line.file, "port": line.port}
-    text = "".join(f"{name} = {value}\n" for name, value in words.items())
-    (folder / "L1.conf").write_text(text)
-    return {"TRACEDESK_SET_UP": str(folder)}
 
 
 def added(line: Line) -> None:
@@ -302,10 +307,10 @@ def test_a_restored_desk_records_the_newest_row_at_its_next_seal(line: Line) -> 
     """The copy is from before that row, and so is the book that somebody puts back later."""
     given(line.archive, FIRST)
     older = taken(line)
-    line.seal().expect()
+    sealed(line).expect()
     given(line.archive, MENDED)
     line.restore().expect()
-    line.seal().expect()
+    sealed(line).expect()
     assert boards(asked(line).expect()) == ["SN-1", "SN-3", "SN-4"]
     put(older)
     asked(line).expect(3, LACKED)

@@ -100,4 +100,4 @@ def test_a_line_of_an_older_release_is_taken_over(line: Line, folder: Path) -> N
     made.expect(0, "with 1 archives")
     run_tool("ops", "check", new, *words).expect(0, "sound, 2 files")
     audit = plant.Program(str(line.program), new).audit
-    assert sealing.seal(LineFolder(new), 0, audit).commands == lawful
+    assert sealing.seal(LineFolder(new), audit).commands == lawful

@@ -268,40 +268,36 @@ def served(program: Path, folder: Path) -> Desk:
 
 
 def test_a_running_desk_is_sealed_and_checked(
-    served: Desk, monkeypatch: pytest.MonkeyPatch, capsys: pytest.CaptureFixture[str]
+    served: Desk, monkeypatch: pytest.MonkeyPatch
 ) -> None:
     monkeypatch.setenv("PROGRAM", str(served.program))
     called = Called(LineFolder(served.file.parent), monkeypatch)
     try:
         for number in range(4):
             served.accept(part(f"P{number}"))
-            assert called.ends("seal", "--port", served.port) == 0
+            assert called.ends("seal") == 0
         assert len(called.files()) == 3
         assert called.ends("check") == 0
-        assert called.ends("seal") == 3
-        assert "nothing says on which port" in capsys.readouterr().err
     finally:
         served.end()
     assert called.ends("seal") == 0 and called.ends("check") == 0
 
 
-def test_another_desk_on_the_port_and_one_that_has_accepted_nothing(
-    served: Desk, program: Path, folder: Path, monkeypatch: pytest.MonkeyPatch
+def test_a_desk_that_has_accepted_nothing_and_one_that_goes_on_as_it_was(
+    program: Path, folder: Path, monkeypatch: pytest.MonkeyPatch
 ) -> None:
     monkeypatch.setenv("PROGRAM", str(program))
-    called = Called(LineFolder(served.file.parent), monkeypatch)
-    other = Desk(program, folder / "L2" / "desk")
+    desk = Desk(program, folder / "L1" / "desk")
+    called = Called(LineFolder(desk.file.parent), monkeypatch)
     try:
-        other.feed([])
-        other.serve()
-        assert Called(LineFolder(other.file.parent), monkeypatch).ends("seal") == 3
-        assert called.ends("seal", "--port", other.port) == 3
-        other.accept(*FIRST_LINE)
-        assert called.ends("seal", "--port", other.port) == 3
-        assert not [*called.line.sealed.iterdir()]
+        desk.feed([])
+        desk.serve()
+        assert called.ends("seal") == 3
+        desk.accept(*FIRST_LINE)
+        assert (called.ends("seal"), called.ends("seal")) == (0, 0)
+        assert len(called.files()) == 1
     finally:
-        served.end()
-        other.end()
+        desk.end()
 
 
 IN_A_FINALIZER = """

@@ -143,7 +143,7 @@ def test_a_board_in_work_is_waited_for(folder: Path, monkeypatch: pytest.MonkeyP
     def made(work: Path) -> sealed.Sealed:
         if left:
             raise left.pop()
-        sealing.copied_stopped(line.desk, work / "desk", audit)
+        sealing.copied(line.desk, work / "desk", audit)
         return sealing.put(line, work / "desk")
 
     with line.changed() as work:

@@ -49,7 +49,7 @@ def test_a_seal_is_named_by_its_content_and_nobody_writes_it(folder: Path) -> No
 def test_the_log_of_a_stopped_desk_is_sealed_with_it(folder: Path) -> None:
     line = line_of(folder / "L1", "a")
     with_log(line, "b")
-    assert sealing.seal(line, 0, audit).commands == 2
+    assert sealing.seal(line, audit).commands == 2
     assert copies.log_of(line.desk), "the desk stays as it was"
 
 
@@ -66,7 +66,7 @@ def test_a_copy_that_the_audit_refuses_or_finds_otherwise_is_not_kept(
 ) -> None:
     line = line_of(folder / "L1", "a", "b")
     with pytest.raises(sealing.NotSealed, match=why):
-        sealing.seal(line, 0, judge)
+        sealing.seal(line, judge)
     assert not [*line.sealed.iterdir()] and not line.work.exists()
 
 
@@ -74,7 +74,7 @@ def test_a_seal_that_is_killed_at_any_call_leaves_a_whole_file_or_none(folder: P
     def begin(line: LineFolder) -> Callable[[], object]:
         seal(line)
         files.accept(line.desk, ["b"])
-        return lambda: sealing.seal(line, 0, audit)
+        return lambda: sealing.seal(line, audit)
 
     for line in killed_at_each_call(folder, begin):
         found = lineage.of(line)
@@ -143,7 +143,7 @@ def test_one_command_that_was_not_sent_again_is_lacking(folder: Path) -> None:
         database.execute(files.INSERT, [2, "epoch-1", "tracedesk", 2, "ClockSet"])
         for number, uid in ((3, "b"), (4, "c")):
             database.execute(files.INSERT, [number, uid, "S", number, f"PartDefined\t{uid}"])
-    sealing.seal(line, 0, audit)
+    sealing.seal(line, audit)
     found = lineage.of(line)
     assert not found.faults and found.lacked == [lineage.Lacked(lost, "S", 1, 2)]
     seal(line, "lost")

@@ -111,7 +111,7 @@ def test_a_seal_under_load_has_what_was_acknowledged_before(sender: Sender) -> N
     wait_for("some messages are answered", lambda: len(sender.numbers) > 20)
     for _ in range(3):
         acknowledged = dict(sender.numbers)
-        made = sealing.seal(LineFolder(desk.file.parent), desk.port, audit)
+        made = sealing.seal(LineFolder(desk.file.parent), audit)
         with sealed.opened(made.path) as database:
             there = dict(copies.rows(database, "SELECT uid, number FROM accepted"))
         assert acknowledged.items() <= there.items()

@@ -206,7 +206,9 @@ def take_over(line: LineFolder, folder: Path, audit: sealing.Audit) -> Sealed:
         for path in aside:
             keep_in_lost(line, whole_copy(path, work))
         take_books(line, folder)
-        sealing.copied_stopped(folder / "desk", work / "desk", audit)
+        if plant.is_open(folder / "desk"):
+            raise NotChanged(f"a run has {folder}/desk open: stop it, and ask again")
+        sealing.copied(folder / "desk", work / "desk", audit)
         made = sealing.put(line, work / "desk")
         for fault in sealing.faults_since(made, lineage.of(line)):
             raise NotChanged(f"{folder} is not taken over: {fault}")

@@ -1,7 +1,7 @@
 """Keeps the files of a line, which is a folder: its desk, sealed/ and lost/.
 
 usage: tracedesk-ops make LINE [--from FOLDER]
-       tracedesk-ops seal LINE [--port N]
+       tracedesk-ops seal LINE
        tracedesk-ops check LINE
        tracedesk-ops restore LINE [FILE] [--dry-run]
        tracedesk-ops rollover LINE [--due | --if-due] [--pieces N] [--with-board-in-work]
@@ -51,14 +51,13 @@ failure.
 from __future__ import annotations
 
 import argparse
-import contextlib
 import importlib
 import os
 import pathlib
 import sys
 from collections.abc import Callable, Sequence
 
-from tracedesk_ops import books, change, check, desk_tables, heads, lineage, options, places
+from tracedesk_ops import books, change, check, desk_tables, lineage, options, places
 from tracedesk_ops import plant, reader_of, rollover, sealing, successor
 from tracedesk_ops.line import Busy, LineFolder, NotALine
 from tracedesk_ops.sealed import Sealed
@@ -77,11 +76,9 @@ def audit_of(asked: argparse.Namespace) -> sealing.Audit:
 def seal(asked: argparse.Namespace) -> int:
     """Seals the desk, and takes away what is superfluous then."""
     line: LineFolder = asked.line
-    made = sealing.seal(line, asked.port, audit_of(asked))
+    made = sealing.seal(line, audit_of(asked))
     faults = [*swept(line, made), *books.faults_of(line)]
-    if asked.port and plant.is_open(line.desk):  # by now it is known to be this desk's
-        with contextlib.suppress(heads.NoHead):
-            heads.give(asked.port, books.heads_of(line.sealed))
+    books.record(line.sealed)
     plant.write_out(f"{made.path}: lawful {made.commands}\n")
     return told(faults, SEE_TO_IT)
 
@@ -152,7 +149,7 @@ def rolled_over(line: LineFolder, asked: argparse.Namespace, service: Service) -
         return audit(file)
 
     def made(work: Path) -> Sealed:
-        return sealing.sealed_in(line, work, asked.port, audited)
+        return sealing.sealed_in(line, work, audited)
 
     def new(work: Path, is_low: bool) -> rollover.NewDesk:
         return successor.Successor(work, wanted, asked.program, asked.chain, is_low)
@@ -243,10 +240,6 @@ def words() -> argparse.Namespace:
     for its in readers.values():
         its.add_argument("line", type=line_named, metavar="LINE", help="its folder, or its name")
         options.offer_program(its)
-    for name in ("seal", "rollover"):
-        readers[name].add_argument(
-            "--port", type=int, default=0, metavar="N", help="where the desk answers"
-        )
     readers["make"].add_argument(
         "--from", type=Path, dest="old", metavar="FOLDER", help="of 1.0.0, or a copy of such a line"
     )
@@ -277,6 +270,7 @@ def parsed(reader: argparse.ArgumentParser) -> argparse.Namespace:
 
 
 def offer_rollover(reader: argparse.ArgumentParser) -> None:
+    reader.add_argument("--port", type=int, default=0, metavar="N", help="where the desk answers")
     reader.add_argument("--due", action="store_true", help="say whether it is time, and do nothing")
     reader.add_argument(
         "--if-due",

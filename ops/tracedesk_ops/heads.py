@@ -91,15 +91,9 @@ def give(port: int, uids: list[str]) -> None:
     """
     if uids and has_minute(port):
         for uid in uids:
-            number_of(port, uid)
-
-
-def number_of(port: int, uid: str) -> int:
-    """Gives a head to a running desk; the number that it has there."""
-    answer = said(port, message(uid))
-    if answer.get("Answer") != "Accepted" or not isinstance(answer.get("Number"), int):
-        raise NoHead(f"the desk on port {port} answers {uid} with {json.dumps(answer)}")
-    return int(answer["Number"])
+            answer = said(port, message(uid))
+            if answer.get("Answer") != "Accepted":
+                raise NoHead(f"the desk on port {port} answers {uid} with {json.dumps(answer)}")
 
 
 def said(port: int, text: str) -> dict[str, Any]:

@@ -1,21 +1,20 @@
 """Seals a line's desk: copies it, has the copy audited, and names it by its content. A copy that
 fails is not kept.
 
-A running desk goes on meanwhile. It is given a marker first, and the copy has all up to that: so
-another desk on the port is noticed. One that is stopped is held by SQLite's lock.
+A running desk goes on meanwhile, and is asked nothing: its file and its log have each command that
+it has acknowledged. A desk that has taken nothing since is the same file as before.
 
-    made = sealing.seal(line, 8080, program.audit)
+    made = sealing.seal(line, program.audit)
     sealing.faults_since(made, lineage.of(line))
 """
 from __future__ import annotations
 
 import os
 import pathlib
-import secrets
 import sqlite3
 from collections.abc import Callable
 
-from tracedesk_ops import copies, files, heads, lineage, plant, sealed
+from tracedesk_ops import copies, files, lineage, plant, sealed
 from tracedesk_ops.line import LineFolder
 from tracedesk_ops.lineage import Lineage
 from tracedesk_ops.sealed import FilesFault, Sealed
@@ -24,31 +23,25 @@ Path = pathlib.Path
 Audit = Callable[[Path], int]  # how many commands a lawful file has; else a plant.Fault
 
 
-UID = "SELECT uid FROM accepted WHERE number = ?"
-
-
 class NotSealed(FilesFault):
     """Why there is no new sealed file. The desk goes on as before."""
 
 
-NOT_NOW = (heads.NoHead, copies.InUse, copies.Changing, plant.Fault, OSError, sqlite3.Error)
+NOT_NOW = (copies.InUse, copies.Changing, plant.Fault, OSError, sqlite3.Error)
 
 
-def seal(line: LineFolder, port: int, audit: Audit) -> Sealed:
-    """Seals the desk, which may run: then it answers on this port."""
+def seal(line: LineFolder, audit: Audit) -> Sealed:
+    """Seals the desk, which may run."""
     with line.changed() as work:
-        return sealed_in(line, work, port, audit)
+        return sealed_in(line, work, audit)
 
 
-def sealed_in(line: LineFolder, work: Path, port: int, audit: Audit) -> Sealed:
+def sealed_in(line: LineFolder, work: Path, audit: Audit) -> Sealed:
     """The same within a change of the line."""
     copy = work / "desk"
     try:
         plant.want_room(work, bytes_of(line.desk), f"a copy of {line.desk}")
-        if plant.is_open(line.desk):
-            copied_running(line.desk, port, copy, audit)
-        else:
-            copied_stopped(line.desk, copy, audit)
+        copied(line.desk, copy, audit)
     except NOT_NOW as fault:
         raise NotSealed(f"{line.desk} was not sealed: {fault}") from fault
     made = put(line, copy)
@@ -61,29 +54,9 @@ def bytes_of(desk: Path) -> int:
     return sum(path.stat().st_size for path in (desk, *copies.logs_of(desk)))
 
 
-def copied_running(desk: Path, port: int, to: Path, audit: Audit) -> None:
-    """Copies a running desk, with a command that this call gives it."""
-    if not port:
-        raise NotSealed(f"{desk} runs, and nothing says on which port it answers: say by --port")
-    if not heads.has_minute(port):
-        raise NotSealed(f"{desk} has accepted nothing, so there is nothing to seal")
-    marker = f"copy-{secrets.token_hex(16)}"
-    number = heads.number_of(port, marker)
-    copies.copy_live(desk, to, is_gentle=True)
-    want_lawful(to, audit)
-    with sealed.opened(to) as database:
-        if copies.rows(database, UID, number) != [(marker,)]:
-            raise NotSealed(
-                f"{desk} has no {marker}, which is command {number} of the desk on port {port}:"
-                " does another desk answer there?"
-            )
-
-
-def copied_stopped(desk: Path, to: Path, audit: Audit) -> None:
-    """Copies a desk that no run has open, with its log."""
-    for left in (to, *copies.logs_of(to)):
-        left.unlink(missing_ok=True)  # of a copy of it while it ran
-    copies.copy(desk, to)
+def copied(desk: Path, to: Path, audit: Audit) -> None:
+    """Copies a desk with its log, gently if it runs, and has the copy audited."""
+    copies.copy_live(desk, to, is_gentle=plant.is_open(desk))
     want_lawful(to, audit)
 
 
@@ -94,7 +67,9 @@ def want_lawful(copy: Path, audit: Audit) -> None:
     plant.without_log(copy)
     with sealed.opened(copy) as database:
         found = sealed.size(database, sealed.HISTORY)
-    if not found or found != commands:
+    if not found:
+        raise NotSealed("it has accepted nothing, so there is nothing to seal")
+    if found != commands:
         raise NotSealed(f"the copy has {found} commands, and its audit says {commands}")
 
 

@@ -44,7 +44,7 @@ def line_of(folder: Path, *uids: str) -> LineFolder:
 def seal(line: LineFolder, *uids: str) -> sealed.Sealed:
     """Seals the desk once it has accepted these too."""
     files.accept(line.desk, uids)
-    return sealing.seal(line, 0, audit)
+    return sealing.seal(line, audit)
 
 
 def with_log(line: LineFolder, uid: str) -> None:
@@ -124,7 +124,7 @@ def rolled_over(line: LineFolder, *said: tuple[str, str]) -> Senders:
     service = Senders(line, [*said])
 
     def made(work: Path) -> sealed.Sealed:
-        sealing.copied_stopped(line.desk, work / "desk", audit)
+        sealing.copied(line.desk, work / "desk", audit)
         return sealing.put(line, work / "desk")
 
     with mock.patch.object(plant, "is_open", lambda _: bool(said)):

@@ -124,7 +124,7 @@ class Histories(RuleBasedStateMachine):
     def seal(self, host: int, kill: int | None = None) -> None:
         its, made = self.host(host), []
         with killed_at(kill, CALLS) if kill else contextlib.nullcontext():
-            made.append(sealing.seal(its.line, 0, audit))
+            made.append(sealing.seal(its.line, audit))
         self.learn(its, its.has)
         for file in made:
             assert file.path.stat().st_mode & 0o222 == 0

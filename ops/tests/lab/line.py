@@ -54,7 +54,7 @@ class Line(Desk):
         return self.call(self.rollover_words(*more, program=program), program, **how)
 
     def seal(self, **how: Any) -> Ended:
-        return self.call(self.ops("seal", "--port", self.port), **how)
+        return self.call(self.ops("seal"), **how)
 
     def restore(self, *more: Word, **how: Any) -> Ended:
         """Restores a sealed file while the service is stopped."""
