@@ -12,10 +12,8 @@ import hashlib
 import os
 import pathlib
 import secrets
-import signal
 import stat
 import tempfile
-import threading
 import time
 from collections.abc import Iterator
 from typing import BinaryIO
@@ -25,43 +23,11 @@ PAGE = 4096  # bytes that are written together at least
 ABANDONED = 3600  # seconds after which an unfinished file is one of a call that was killed
 
 
-@contextlib.contextmanager
-def unstopped() -> Iterator[None]:
-    """A signal that ends a tool waits for the end of the block."""
-    came: list[int] = []
-    numbers = (signal.SIGTERM, signal.SIGHUP) if is_main_thread() else ()
-    was = {it: signal.signal(it, lambda number, _: came.append(number)) for it in numbers}
-    try:
-        yield
-    finally:
-        for number, handler in was.items():
-            signal.signal(number, handler)
-        if came:
-            signal.raise_signal(came[0])
-
-
-def is_main_thread() -> bool:
-    """Python calls what handles a signal in this thread alone."""
-    return threading.current_thread() is threading.main_thread()
-
-
 class Room(tempfile.TemporaryDirectory[str]):
-    """A folder for the time of a block, which a tool that is stopped removes too."""
+    """A folder for the time of a block."""
 
     def __init__(self, prefix: str = "tracedesk-", dir: pathlib.Path | None = None) -> None:
-        is_made = False
-        try:
-            with unstopped():
-                super().__init__(prefix=prefix, dir=dir)
-                is_made = True
-        except BaseException:
-            if is_made:
-                self.cleanup()
-            raise
-
-    def cleanup(self) -> None:
-        with unstopped():
-            super().cleanup()
+        super().__init__(prefix=prefix, dir=dir)
 
 
 def put(path: pathlib.Path, text: str, mode: int | None = None) -> None:
