@@ -145,7 +145,7 @@ def test_a_desk_that_runs_is_not_restored(folder: Path) -> None:
         assert run.stdout and run.stdout.readline()
         with pytest.raises(change.NotChanged, match="stop the line's service"):
             change.plan(line, older)
-        with pytest.raises(copies.InUse):
+        with pytest.raises(plant.Fault, match="a run has"):
             change.restore(line, its, audit)
         run.communicate()
     assert uids(line.desk) == ["a", "b"] and not [*line.lost.iterdir()]

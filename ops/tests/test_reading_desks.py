@@ -1,5 +1,5 @@
-"""Tools that read a desk's file: its log is read too, nothing is changed, and a file that a run has
-open is refused."""
+"""Tools that read a desk's file: its log is read too, also of one that runs, and nothing is
+changed."""
 import contextlib
 import itertools
 import multiprocessing
@@ -7,7 +7,7 @@ import pathlib
 import shutil
 import signal
 import sqlite3
-from typing import Any, Iterator
+from typing import Iterator
 
 import pytest
 
@@ -17,7 +17,7 @@ from lab.line import Line, NewLine
 from lab.messages import FIRST_LINE
 from lab.tools import Ended, Word, run, run_changed, tool
 from tracedesk_dev import begun
-from tracedesk_ops import catalogue, copies, doubts, plant
+from tracedesk_ops import catalogue, doubts, plant
 
 TARGET = "/slots?machine=M"
 SLOTS_HEADER = "slot,position,reel,part,lot,remaining,minutes_left\n"
@@ -43,6 +43,7 @@ def served(desk: Desk) -> Desk:
 @pytest.mark.parametrize("how", [signal.SIGTERM, signal.SIGKILL])
 @pytest.mark.parametrize("by", ["name", "link"])
 def test_log_is_read_and_stays_as_it_is(served: Desk, how: signal.Signals, by: str) -> None:
+    assert ask(served.file, TARGET).out == SLOTS, "while it runs"
     served.end(how)
     alone = served.file.with_name("alone")
     shutil.copy(served.file, alone)
@@ -57,34 +58,8 @@ def test_log_is_read_and_stays_as_it_is(served: Desk, how: signal.Signals, by: s
     assert served.bytes() == before
 
 
-def test_file_of_a_running_desk_is_refused(served: Desk) -> None:
-    done = ask(served.file, TARGET).expect(1, "a run has it open")
-    assert not done.out
-    (again,) = served.post(FIRST_LINE[:1])
-    assert again == {"Answer": "Accepted", "Number": 1, "UniqueID": "u1"}
-
-
 def audit_status(desk: Desk) -> int:
     return run([desk.program, "audit", "--db", desk.file]).status
-
-
-def test_no_run_opens_a_file_that_is_being_copied(
-    served: Desk, monkeypatch: pytest.MonkeyPatch
-) -> None:
-    served.end()
-    statuses, copied = [], shutil.copyfile
-
-    def copyfile(*words: Any) -> Any:  # by which the log is copied, after the file
-        statuses.append(audit_status(served))
-        return copied(*words)
-
-    monkeypatch.setattr(shutil, "copyfile", copyfile)
-    copy = served.file.with_name("copy")
-    copies.copy(served.file, copy)
-    statuses.append(audit_status(served))
-    assert statuses == [3, 0]
-    with pytest.raises(FileExistsError):
-        copies.copy(served.file, copy)
 
 
 def test_who_looks_whether_a_desk_is_open_is_in_no_runs_way(served: Desk) -> None:

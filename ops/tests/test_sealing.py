@@ -52,7 +52,7 @@ def test_a_copy_of_a_file_that_is_written_is_one_moment_of_it(tmp_path: Path) ->
         for number in range(20):
             wait_for("rows are written", lambda: writer.written > 10 * number)
             to, before = tmp_path / "copy", writer.written
-            copies.copy_live(writer.path, to, is_gentle=number % 2 == 0)
+            copies.copy(writer.path, to, is_gentle=number % 2 == 0)
             after = writer.written
             copies.fold(to)
             with sealed.opened(to) as database:
@@ -72,7 +72,7 @@ def test_a_file_that_changes_at_each_try_gives_no_copy(
     moments = iter(range(1_000))
     monkeypatch.setattr(copies, "state_of", lambda *_: next(moments))
     with pytest.raises(copies.Changing, match="30 times"):
-        copies.copy_live(tmp_path / "desk", tmp_path / "copy")
+        copies.copy(tmp_path / "desk", tmp_path / "copy")
 
 
 class Sender(threading.Thread):

@@ -126,7 +126,7 @@ def desk_now(desk: Path, room: Path | None = None) -> Iterator[Sealed | None]:
         return
     with contextlib.ExitStack() as held:
         copy = Path(room or held.enter_context(files.Room()), RUNNING)
-        copies.copy_live(desk, copy)
+        copies.copy(desk, copy)
         copies.fold(copy)
         yield sealed.read_of(copy, files.sha256_of(copy) if room else "")
 

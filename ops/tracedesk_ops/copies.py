@@ -1,11 +1,11 @@
 """A copy of a desk's file with its log: for tools that read a desk's tables.
 
-The newest commands of a desk may be in its log alone: after SIGTERM, by which the service stops,
-and after a kill. Who reads the file without its log misses them, and gets no error. So tools read a
-copy of both, in a folder of its own, and the desk's own file and log stay as they are. A file that
-a run has open is refused.
+The newest commands of a desk may be in its log alone: while it runs, after SIGTERM, by which the
+service stops, and after a kill. Who reads the file without its log misses them, and gets no error.
+So tools read a copy of both, in a folder of its own, and the desk's own file and log stay as they
+are. The copy is one moment of a desk that runs.
 
-    with copies.opened("/var/lib/tracedesk/archive/desk-1") as database:
+    with copies.opened("/var/lib/tracedesk/desk") as database:
         database.execute("SELECT count(*) FROM accepted")
 """
 from __future__ import annotations
@@ -56,10 +56,10 @@ def logs_of(path: pathlib.Path) -> list[pathlib.Path]:
 
 
 class InUse(Exception):
-    """A run has the file open, so that a copy would be of no use."""
+    """A run has the file open."""
 
     def __init__(self) -> None:
-        super().__init__("a run has it open: stop that, or name a copy of the file and its log")
+        super().__init__("a run has it open: stop that")
 
 
 def is_locked(file: BinaryIO, kind: int = fcntl.F_RDLCK) -> bool:
@@ -71,53 +71,36 @@ def is_locked(file: BinaryIO, kind: int = fcntl.F_RDLCK) -> bool:
     return bool(answer[0] != fcntl.F_UNLCK)
 
 
-def copy(file: str | os.PathLike[str], to: pathlib.Path) -> None:
-    """Copies a desk's file and its log; the log's copy has the same ending. No run can open the
-    file meanwhile.
-    """
-    file = os.path.realpath(file)  # a link has no log of its own
-    with open(file, "rb") as source:
-        try:
-            fcntl.lockf(source, fcntl.LOCK_SH | fcntl.LOCK_NB, LOCKED, LOCKED_FROM)
-        except BlockingIOError:
-            raise InUse() from None
-        # not by name: the lock ends with the first closing of the file in this process
-        with open(to, "xb") as target:
-            shutil.copyfileobj(source, target)
-        for log in LOGS:
-            if os.path.exists(file + log):
-                shutil.copyfile(file + log, f"{to}{log}")
-
-
-class Changing(Exception):
-    """A running desk's file was changed again and again while it was copied."""
+class Changing(InUse):
+    """A file was changed again and again while it was copied."""
 
     def __init__(self) -> None:
-        super().__init__(f"it was changed while it was copied, {TRIES} times: ask again")
+        Exception.__init__(self, f"it was changed while it was copied, {TRIES} times: ask again")
 
 
-def copy_live(file: pathlib.Path, to: pathlib.Path, is_gentle: bool = False) -> None:
-    """Makes a copy of the file and the log of a desk that may run equal to them, as they are now.
+def copy(file: str | os.PathLike[str], to: pathlib.Path, is_gentle: bool = False) -> None:
+    """Makes a copy of the file and the logs of a desk that may run equal to them, as they are now.
     Nobody else may open the copies. A log is written to its end while the file stays, until the
     file takes the log in: if the file changed meanwhile, or the log began anew, what differs is
     copied again.
     """
-    log, log_to = (pathlib.Path(f"{it}-wal") for it in (file, to))
+    path = pathlib.Path(os.path.realpath(file))  # a link has no log of its own
     for _ in range(TRIES):
-        before = state_of(file, log)
-        files.make_equal(file, to, is_gentle)
-        log_to.unlink(missing_ok=True)
-        with contextlib.suppress(FileNotFoundError):
-            shutil.copyfile(log, log_to)
-        if state_of(file, log) == before:
+        before = state_of(path)
+        files.make_equal(path, to, is_gentle)
+        for tail in LOGS:
+            pathlib.Path(f"{to}{tail}").unlink(missing_ok=True)
+            with contextlib.suppress(FileNotFoundError):
+                shutil.copyfile(f"{path}{tail}", f"{to}{tail}")
+        if state_of(path) == before:
             return
     raise Changing()
 
 
-def state_of(file: pathlib.Path, log: pathlib.Path) -> tuple[int, int, int, bytes]:
+def state_of(file: pathlib.Path) -> tuple[int, int, int, bytes]:
     """What stays the same of a file and its log while a log is only added to."""
     its, head = os.stat(file), b""
-    with contextlib.suppress(FileNotFoundError), open(log, "rb") as it:
+    with contextlib.suppress(FileNotFoundError), open(f"{file}-wal", "rb") as it:
         head = it.read(32)
     return its.st_ino, its.st_size, its.st_mtime_ns, head
 

@@ -27,7 +27,7 @@ class NotSealed(FilesFault):
     """Why there is no new sealed file. The desk goes on as before."""
 
 
-NOT_NOW = (copies.InUse, copies.Changing, plant.Fault, OSError, sqlite3.Error)
+NOT_NOW = (copies.InUse, plant.Fault, OSError, sqlite3.Error)
 
 
 def seal(line: LineFolder, audit: Audit) -> Sealed:
@@ -56,7 +56,7 @@ def bytes_of(desk: Path) -> int:
 
 def copied(desk: Path, to: Path, audit: Audit) -> None:
     """Copies a desk with its log, gently if it runs, and has the copy audited."""
-    copies.copy_live(desk, to, is_gentle=plant.is_open(desk))
+    copies.copy(desk, to, is_gentle=plant.is_open(desk))
     want_lawful(to, audit)
 
 
