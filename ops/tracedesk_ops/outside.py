@@ -7,9 +7,8 @@ import os
 import pathlib
 import pwd
 import stat
-import subprocess
 from collections.abc import Iterator
-from typing import Any, NamedTuple
+from typing import NamedTuple
 
 from tracedesk_ops import copies
 
@@ -61,39 +60,21 @@ def in_use(file: str) -> Iterator[Finding]:
         yield Finding(IN_USE, f"{', '.join(found)} has {file} open")
 
 
-def may(user: pwd.struct_passwd | None, *tests: str) -> bool:
-    """Whether a user has these rights, as `test` knows them."""
-    how: dict[str, Any] = {}
-    if user:
-        groups = os.getgrouplist(user.pw_name, user.pw_gid)
-        how = {"user": user.pw_uid, "group": user.pw_gid, "extra_groups": groups}
-    return subprocess.run(["test", *tests], **how).returncode == 0
-
-
-def user_of(file: str) -> pwd.struct_passwd | None:
-    """Who has to be able to open a file: of root's calls the owner of its folder, else that of the
-    file; none if it is who calls.
+def rights(file: str) -> Iterator[str]:
+    """What the owner of the desk's folder, as whom this is called, may not do that an opening does,
+    in words.
     """
-    for it in (os.path.dirname(file), file) if os.geteuid() == 0 else ():
-        with contextlib.suppress(KeyError):
-            if owner := os.stat(it).st_uid:
-                return pwd.getpwuid(owner)
-    return None
-
-
-def rights(file: str, user: pwd.struct_passwd | None) -> Iterator[str]:
-    """What a user may not do that an opening does, in words."""
-    who, log = user.pw_name if user else pwd.getpwuid(os.geteuid()).pw_name, f"{file}-wal"
+    who, log = name_of(os.geteuid()), f"{file}-wal"
     for it in [file] + ([log] if os.path.lexists(log) else []):
-        for right, word in (("-r", "read"), ("-w", "write")):
-            if not may(user, right, it):
+        for right, word in ((os.R_OK, "read"), (os.W_OK, "write")):
+            if not os.access(it, right, effective_ids=True):
                 about = os.stat(it)
                 yield (
                     f"{who} may not {word} {it}, which belongs to user {name_of(about.st_uid)} and"
                     f" has mode {stat.S_IMODE(about.st_mode):o}"
                 )
     folder = os.path.dirname(file)
-    if not os.path.lexists(log) and not may(user, "-w", folder, "-a", "-x", folder):
+    if not os.path.lexists(log) and not os.access(folder, os.W_OK | os.X_OK, effective_ids=True):
         yield f"{who} may not make the log in {folder}"
 
 
@@ -151,7 +132,7 @@ def outside(file: str) -> Iterator[Finding]:
     ):
         yield from (Finding(cause, it) for it in found)
     if not any(room(file)):  # a disk that is read only refuses everybody
-        yield from (Finding(RIGHTS, it) for it in rights(file, user_of(file)))
+        yield from (Finding(RIGHTS, it) for it in rights(file))
 
 
 def no_database(file: str) -> Finding | None:
