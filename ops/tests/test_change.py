@@ -13,7 +13,7 @@ import pytest
 from lab import files
 from lab.folders import audit, killed_at_each_call, line_of, rolled_over, seal, with_log
 from tracedesk_ops import change, copies, lineage, plant, sealed
-from tracedesk_ops.line import WORK, LineFolder, NotALine
+from tracedesk_ops.line import LineFolder, NotALine
 
 Path = pathlib.Path
 
@@ -30,19 +30,6 @@ def restored(line: LineFolder, file: sealed.Sealed) -> change.RestorePlan:
     its = change.plan(line, file)
     change.restore(line, its, audit)
     return its
-
-
-def test_a_folder_of_others_stays_as_it_is(tmp_path: Path) -> None:
-    names = ["work", WORK]
-    for name in names:
-        (tmp_path / name).mkdir()
-        (tmp_path / name / "theirs").write_text("a year of it")
-    for is_new in (False, True):
-        with pytest.raises(NotALine, match="is no line's folder"):
-            with LineFolder(tmp_path).changed(is_new):
-                raise AssertionError("the folder was taken for a line's")
-    assert sorted(it.name for it in tmp_path.iterdir()) == sorted(names)
-    assert {(tmp_path / name / "theirs").read_text() for name in names} == {"a year of it"}
 
 
 def test_the_whole_disk_is_no_line() -> None:

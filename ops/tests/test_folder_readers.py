@@ -35,28 +35,6 @@ def survey(line: LineFolder) -> around.Survey:
     return around.survey(line, line.name)
 
 
-def test_the_chain_of_a_folder_and_what_it_lacks(line: LineFolder) -> None:
-    found = survey(line)
-    (archive,), (lost,) = found.archives, line.lost.iterdir()
-    assert archive.commands == 2 and found.last and found.last.commands == 3
-    (fault,) = found.faults
-    assert fault.startswith(f"1 commands of S are in {lost}, the first of")
-    files.accept(line.desk, ["c"])
-    assert not survey(line).faults
-
-
-@pytest.mark.parametrize("folder_of_it", ["sealed", "lost"])
-def test_a_file_that_was_changed_is_named(line: LineFolder, folder_of_it: str) -> None:
-    path = sorted((line.path / folder_of_it).iterdir())[0]
-    content = bytearray(path.read_bytes())
-    content[-1] ^= 1
-    path.unlink()
-    path.write_bytes(content)
-    assert any(str(path) in fault for fault in survey(line).faults)
-    path.write_bytes(b"no database")
-    assert any(str(path) in fault for fault in survey(line).faults)
-
-
 def test_an_archive_that_is_missing_is_named_and_the_others_are_asked(line: LineFolder) -> None:
     rolled_over(line)
     first, second = survey(line).archives
@@ -73,14 +51,6 @@ def test_without_a_desk_the_newest_file_stands_for_it(line: LineFolder) -> None:
     line.desk.unlink()
     found = survey(line)
     assert found.last and found.last.file == newest.path.name and not found.faults
-
-
-def test_a_desk_that_was_set_back_lacks_what_was_sealed(line: LineFolder) -> None:
-    kept = line.path.with_name("snapshot")
-    shutil.copyfile(line.desk, kept)
-    seal(line, "e")
-    shutil.copyfile(kept, line.desk)
-    assert any("1 commands of S are in" in fault for fault in survey(line).faults[1:])
 
 
 def test_desks_that_changed_places_are_named(folder: Path) -> None:

@@ -40,14 +40,6 @@ def test_program_that_fails(half: Line, shifted: Shifted, folder: pathlib.Path, 
     shifted.expect_unchanged(half)
 
 
-@pytest.mark.parametrize("share", [0.05, 0.6])
-def test_file_that_cannot_grow(half: Line, shifted: Shifted, share: float) -> None:
-    """The copy doesn't fit, or the new desk doesn't."""
-    limit = int(shifted.half.file.stat().st_size * share)
-    half.rollover(limit=limit).expect(3, AS_IT_WAS)
-    shifted.expect_unchanged(half)
-
-
 @pytest.fixture
 def disk(shifted: Shifted, folder: pathlib.Path) -> Iterator[pathlib.Path]:
     """A disk of its own, twelve times as large as a desk."""

@@ -65,13 +65,12 @@ class Line(Desk):
         self,
         words: list[Word],
         program: Optional[pathlib.Path] = None,
-        limit: int = 0,
         env: Optional[Mapping[str, str]] = None,
     ) -> Ended:
-        """Calls a tool, which may make no file larger than a limit."""
+        """Calls a tool."""
         # of `wrapped`: tracedesk-chain lies next to it
         own = {"CHAIN": str(program.with_name("tracedesk-chain"))} if program else {}
-        return run(words, env={**own, **(env or {})}, limit=limit)
+        return run(words, env={**own, **(env or {})})
 
     def recall_words(self) -> list[Word]:
         return ["--line", self.name, self.folder]
