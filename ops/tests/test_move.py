@@ -1,5 +1,5 @@
 """tracedesk-ops move between desks of random messages: the new desk reports the same of a reel as
-the old one, and goes on alike.
+the old one.
 
 Of each seed random messages are fed to an old desk, and the set-up of the same floor to a new one,
 whose clock is before or at the old one's, or which has accepted nothing. Each reel of the old desk
@@ -38,7 +38,6 @@ LIMIT = {"2": 525_600, "2a": 40_320, "3": 10_080, "4": 4_320, "5": 2_880, "5a": 
 # How far the new desk's clock is behind the old one's, and how far the move is ahead of both.
 BEHIND = (None, -60, -1, 0, 0, 1, 90, 1_500, 4_000, 30_000, 600_000)
 AHEAD = (0, 0, 45, 2_000, 45_000)
-STEPS = (0, 1, 60, 1_439, 3_000, 10_050)
 PAST = ("received", "placed", "scrapped")  # of a card: what each desk counts for itself
 
 
@@ -156,50 +155,7 @@ class Moving(Two):
             assert card_now(arrived, reel) == card_now(stays, reel)
             assert minute_of(arrived) == now
             assert table(card(goes, reel))[0]["remaining"] == "0"
-            self.goes_on(reel, arrived, stays, now)
         return "moved"
-
-    def goes_on(self, reel: str, arrived: Desk, stays: Desk, minute: int) -> None:
-        """Both get the same messages: answers, overdue lists and cards have to be the same."""
-        ((part,),) = stays.rows("SELECT part FROM reel WHERE reel = ?", reel)
-        later = texts(self.later(reel, part, minute))
-        answers = [
-            [{name: value for name, value in it.items() if name != "Number"} for it in said]
-            for said in (arrived.feed(later), stays.feed(later))
-        ]
-        assert answers[0] == answers[1]
-        assert card_now(arrived, reel) == card_now(stays, reel)
-        overdue = [
-            [line for line in desk.report("/overdue").splitlines() if line.startswith("BX,")]
-            for desk in (arrived, stays)
-        ]
-        assert overdue[0] == overdue[1]
-
-    def later(self, reel: str, part: str, minute: int) -> list[Message]:
-        """The reel is loaded, pieces are placed before and after its floor life ends, and it is
-        sealed."""
-        names = iter(f"later{number}" for number in range(100))
-        at = {"Machine": "MX", "Slot": "1"}
-        work = {"Machine": "MX", "Board": "BX"}
-        row = {"Slot": "1", "PartNumber": part, "Designators": ["X1", "X2", "X3"]}
-        sheet = {"Product": "MX", "Machine": "MX", "Rows": [row]}
-        said = [
-            say("SheetDefined", next(names), minute, **sheet),
-            say("ProductSelected", next(names), minute, Machine="MX", Product="MX"),
-            say("MaterialsLoaded", next(names), minute, **at, Reel=reel),
-            say("WorkStarted", next(names), minute, **work),
-        ]
-        for name in row["Designators"]:
-            minute += self.random.choice(STEPS)
-            said.append(say("ClockSet", next(names), minute))
-            said.append(say("MaterialsInstalled", next(names), minute, **work, Designators=[name]))
-        return [
-            *said,
-            say("WorkCompleted", next(names), minute, **work),
-            say("MaterialsUnloaded", next(names), minute, **at),
-            say("ReelSealed", next(names), minute, Reel=reel),
-            say("ClockSet", next(names), minute + 500),
-        ]
 
 
 @pytest.mark.parametrize("number", SEEDS)

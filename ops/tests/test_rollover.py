@@ -1,12 +1,9 @@
-"""Roll-overs of a line that works on: nothing is lost, nothing acts twice, and every report is that
-of one desk."""
+"""Roll-overs of a line that works on: nothing is lost, nothing acts twice, and traces are those of
+one desk. That the new desk has the same reels is proved by tracedesk-chain alike, at each."""
 import contextlib
-import csv
 import http.client
-import io
 import pathlib
 import time
-import urllib.parse
 from typing import Any, Iterator
 
 import pytest
@@ -96,43 +93,6 @@ def test_traces_over_all_desks_are_those_of_one(thrice: Line, shifted: Shifted) 
         all_of_them = rows_by_target(thrice, thrice.files(), targets)
     assert all_of_them == rows_by_target(thrice, [shifted.one.file], targets)
     assert any(all_of_them.values())
-
-
-def on_hand(file: pathlib.Path) -> list[str]:
-    """The targets of all slots, kits and cards that a desk has."""
-
-    def ask(path: str, **words: object) -> str:
-        return f"{path}?{urllib.parse.urlencode(words)}"
-
-    sheets = rows_of(file, "SELECT DISTINCT product, machine FROM sheet_row ORDER BY 1, 2")
-    reels = rows_of(file, "SELECT reel FROM reel WHERE remaining > 0 ORDER BY reel")
-    return [
-        *(ask("/slots", machine=machine) for machine in sorted({it for _, it in sheets})),
-        *(
-            ask("/kit", product=product, machine=machine, boards=boards)
-            for product, machine in sheets
-            for boards in (1, 20)
-        ),
-        *(ask("/reel", reel=reel) for (reel,) in reels),
-    ]
-
-
-def without_sums(text: str) -> list[dict[str, str]]:
-    """The rows of a report without what a desk counts from its own beginning."""
-    counted = {"received": "", "placed": "", "scrapped": ""}
-    return [{**row, **counted} for row in csv.DictReader(io.StringIO(text))]
-
-
-def test_slots_kits_and_cards_are_those_of_one_desk(thrice: Line, shifted: Shifted) -> None:
-    with thrice.stopped():
-        targets = on_hand(thrice.file)
-        of_one, of_last = (
-            list(reports_of(thrice, file, targets)) for file in (shifted.one.file, thrice.file)
-        )
-    for target, one, last in zip(targets, of_one, of_last, strict=True):
-        assert not one.startswith("{"), target
-        assert without_sums(one) == without_sums(last), target
-    assert len(targets) > 100
 
 
 # --- One roll-over

@@ -10,7 +10,6 @@ LEVELS = ("1", "2", "2a", "3", "4", "5", "5a", "6")
 MACHINES, PRODUCTS, SLOTS = ("M 1", "M2"), ("PR", "P&S"), ("1", "2", "3+")
 PARTS = ("A", "B", "C", "D,E")
 OLD_BOARDS = tuple(f"B{n}" for n in range(4))
-NEW_BOARDS = tuple(f"N{n}" for n in range(4))
 STEPS = (0, 0, 0, 1, 5, 60, 400, 1_400, 5_000)  # minutes between two messages
 WEIGHTS = {  # a few words come often, as they do on a line
     "ReelReceived": 4,
