@@ -130,27 +130,6 @@ def test_a_decision_in_the_inbox_is_none(plant: Plant) -> None:
         assert len(untraced.undecided(untraced.read(plant.line.archive).records)) == undecided
 
 
-def test_half_a_letter_holds_nothing_up(plant: Plant) -> None:
-    """A code that was cut in the middle of a letter of two parts is no text that a file can
-    have.
-    """
-    plant.send_refused(
-        plant.message(NOW, "WorkStarted", Machine="M1", Board="SN-\ud83d"),
-        plant.message(NOW, "WorkStarted", Machine="M2", Board="SN-200"),
-    )
-    plant.untraced("collect").expect()
-    assert [it.name for it in plant.inbox.glob("*.json")] == [untraced.COLLECTED]
-    assert (plant.status / "untraced.json").exists()
-    boards = {row["board"] for row in table(plant.untraced("list").expect(1).out)}
-    assert boards == {"SN-\\ud83d", "SN-200"}
-
-
-def test_a_report_that_nobody_can_read_is_listed(plant: Plant) -> None:
-    plant.send_refused(plant.message(NOW, "WorkStarted", Machine="M1", Board="SN-1")[:-2])
-    (row,) = table(plant.recall("L-R-1", 3))
-    assert (row["board"], row["refusal"]) == ("", "Faulty")
-
-
 def test_where_too_much_waits_nginx_is_told(plant: Plant, monkeypatch: pytest.MonkeyPatch) -> None:
     """Of one log-in, and of all."""
     for owner in ("", "m1~", "m2~"):

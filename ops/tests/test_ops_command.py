@@ -248,14 +248,6 @@ def test_without_room_nothing_is_begun(
     assert called.files() == [1] and not called.line.work.exists()
 
 
-def test_a_check_writes_nothing(called: Called) -> None:
-    called.ends("seal")
-    files.accept(called.line.desk, ["b"])
-    before = {path: path.stat().st_mtime_ns for path in called.line.path.rglob("*")}
-    called.ends("check")
-    assert before == {path: path.stat().st_mtime_ns for path in called.line.path.rglob("*")}
-
-
 # --- The program
 
 

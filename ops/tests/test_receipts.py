@@ -6,9 +6,9 @@ import pathlib
 from typing import Any
 
 import pytest
-from lab import ROOT, messages, small
+from lab import small
 from lab.site import Site
-from lab.tools import SENDER, Word, run, run_tool
+from lab.tools import run_tool
 from tracedesk_ops import attributes, plant, receipts
 from tracedesk_ops.attributes import Reel
 from tracedesk_ops.receipts import Receipts
@@ -16,7 +16,6 @@ from tracedesk_ops.receipts import Receipts
 MORE = {"DateCode": "2614", "Supplier": "Maker One", "MakerPart": "GRM155", "Order": "PO-7"}
 WHOLE = Reel("K-1", "CAP", "L-1", "2614", "Maker One", "GRM155", "PO-7")
 DAY = "receipts-2026-03-02.jsonl"
-BRIDGE = ROOT / "examples/bridge/tracedesk-bridge"
 
 
 def message(**more: Any) -> str:
@@ -124,27 +123,3 @@ def want_one(site: Site, reel: Reel) -> None:
     done = run_tool("untraced", "collect", "--line", site.room / "line")
     done.expect(0, "1 reels have attributes")
     assert known(site.room / "line/sealed") == [reel]
-
-
-TABLE = """{MessageName: "TraceDesk.ReelReceived", UniqueID: .id, Source: "erp", TimeStamp: .at,
-MessageBody: ({Reel: .reel, PartNumber: .part, Lot: .lot, Level: "1", Quantity: .pieces,
-  DateCode: "\\(.code)", Supplier: .by} + if .order then {Order: .order} else {} end)}
-"""
-
-
-@pytest.mark.needs("nginx", "openssl", "jq")
-def test_receipts_of_the_bridge_give_attributes(site: Site, folder: pathlib.Path) -> None:
-    """By a filter, and by a sender through the proxy. One that is not there is none."""
-    for text in small.set_up():
-        site.asked("POST", "/messages", "op", text)
-    told: dict[str, Any] = {"kind": "delivered", "id": "d-1", "at": messages.MORNING}
-    told |= {"reel": "K-8", "part": "CAP", "lot": "L-8", "pieces": 5, "code": 2614}
-    told |= {"by": "<b>Maker & Co</b>", "order": None}
-    for name, value in (("table", TABLE), ("said", json.dumps(told))):
-        (folder / name).write_text(f"{value}\n")
-    spool: list[Word] = ["--spool", folder / "spool"]
-    bridge: list[Word] = [BRIDGE, "--table", folder / "table", *spool, folder / "said"]
-    run(bridge).expect()
-    who: list[Word] = ["--url", site.url, "--ca", site.room / "etc/server.crt", "--user", "op"]
-    run([SENDER, *who, *spool], env={"TRACEDESK_PASSWORD": "op"}).expect()
-    want_one(site, Reel("K-8", "CAP", "L-8", "2614", "<b>Maker & Co</b>"))

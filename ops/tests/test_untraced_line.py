@@ -2,7 +2,6 @@
 import base64
 import json
 import pathlib
-import shutil
 from typing import Any, Iterator
 
 import pytest
@@ -212,16 +211,6 @@ def test_a_reel_that_was_refused_before_the_board_may_be_on_it(plant: Plant) -> 
     plant.decide(record.id, "used as it is")
     for lot in ("L-K-1", "L-WRONG"):
         assert "B1" in plant.recall(lot, 5, "doubtful")
-
-
-def test_a_recall_misses_the_file_that_is_gone(expired: Plant) -> None:
-    expired.decide_all()
-    file = expired.line.archive / "untraced.csv"
-    kept = shutil.copy(file, expired.line.folder / "kept")
-    file.unlink()
-    expired.recall("L-OLD", 3)
-    shutil.copy(kept, file)
-    expired.recall("L-OLD", 0)
 
 
 def test_a_refused_splice_makes_pieces_doubtful_until_it_is_decided(plant: Plant) -> None:
