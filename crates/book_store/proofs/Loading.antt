@@ -1,11 +1,12 @@
 -- Both lists, over a call that may load the desk.
-use Rattle.desk_types.proofs.Common.{◌≡◌, Basis, IfSome, inl, inr, Option, Some, subst}
+use Rattle.desk_types.proofs.Common.{◌≡◌, arith, Basis, IfSome, inl, inr, Option, Some, subst, sym}
 use Rattle.line_book.specs.declared.guard.Guard.{Guard}
+use Rattle.line_book_store.specs.Book.{HoldsBook}
 use Rattle.line_schema.proofs.Verdicts.{keeps_of}
-use Rattle.line_schema.specs.{Frames.LetsOthersBe, Frames.MakesDesk, Stands.state_of}
+use Rattle.line_schema.specs.{Frames.LetsOthersBe, Frames.MakesDesk, Frames.ReadsStore, Stands.state_of}
 use Rattle.line_schema.specs.{declared.store.LineStore.LineStore}
 use Rattle.line_schema.specs.Verdict.{KeepsBoth}
-use Rattle.line_tables.proofs.Common.{Ghosts, HasCleanDisk, State, Survives, Trees}
+use Rattle.line_tables.proofs.Common.{Database, Ghosts, HasCleanDisk, State, Survives, Trees}
 use Rattle.book_store.specs.Lists.{ForLists, StandsFor}
 use Rattle.book_store.specs.declared.store.BookStore.{BookStore}
 
@@ -37,3 +38,19 @@ pub nothing_left : (old new : State) → Survives old new (λ _. ⊥) → HasCle
     → new.may_leave trees → old.may_leave trees
 nothing_left old new survives clean trees may = elim (survives.crash clean trees may)
     [ inl was ↦ was | inr none ↦ absurd none ]
+
+-- A call that only reads changes neither list.
+pub lists_read : {S D : Type 0} (g : Ghosts S) (F : D → Basis → Type 0) (old : BookStore S D)
+    (new : LineStore S D) → ReadsStore g F old.store new → ForLists g F old (record old { store = new })
+    (StandsFor g F (record old { store = new }))
+lists_read g F old new reads L was clean own = record {
+  both = record {
+    stands = reads.stands L.kept was.both.stands;
+    book = λ now owns is_open.
+        let kept = reads.reads.kept now in
+        subst (λ (db : Database). HoldsBook db L.rows) (sym (kept.committed is_open))
+        (was.both.book (omega (arith, reads.reads.survives.clean, now)) owns (kept.was_open is_open));
+  };
+  read = was.read;
+  guard = was.guard;
+}

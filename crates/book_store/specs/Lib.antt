@@ -5,3 +5,4 @@ pub mod Heard
 pub mod Lists
 pub mod Opened
 pub mod Restored
+pub mod Said

@@ -7,9 +7,12 @@ ghost use Rattle.line_book.specs.Go.{MayWork};
 ghost use Rattle.book_store.specs.Lists.{ForLists, Serves, StandsFor, book_state};
 
 mod accepting;
+mod entries;
 mod hearing;
 mod noting;
 mod opening;
+mod saying;
+mod state;
 
 use desk_types::Id;
 pub use hearing::Heard;

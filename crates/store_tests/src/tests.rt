@@ -5,6 +5,7 @@
 //! how each of their parts is dropped. What is done over a connection is generic in its store, and what came of it is
 //! asserted once it is closed: the proof of an assertion beside a connection of these files takes a minute.
 
+mod book_stores;
 mod books;
 mod both_lists;
 mod sending;

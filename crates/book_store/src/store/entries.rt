@@ -1,0 +1,36 @@
+//! The rows of the book.
+
+ghost use Rattle.std.specs.Prelude.{◌≡◌, IfOk, length, map};
+ghost use Rattle.sqlite.specs.State.{Survives};
+ghost use Rattle.line_book_store.specs.Book.{entry_columns};
+ghost use Rattle.line_book_store.specs.Reading.{window};
+ghost use Rattle.book_store.specs.Lists.{ForLists, Lists, Serves, StandsFor, book_state};
+
+use crate::store::BookStore;
+use line_book::BookRow;
+use line_schema::Unavailable;
+use sqlite::Alter;
+use state_rows::KeepsRows;
+
+impl<S: Alter, D: KeepsRows + Drop> BookStore<S, D> {
+    /// Returns the number of the last entry, or 0 without one.
+    pub fn last_entry(&self) -> u32
+        ensures { (L : Lists) → StandsFor S.Store D.Stands self.now L → result ≡ length L.notes }
+    {
+        self.reading.entries
+    }
+
+    /// Returns at most so many rows behind the one with this number, in their order. Nothing changes.
+    pub fn entries(&mut self, number: u32, most: u32) -> Result<Vec<BookRow>, Unavailable>
+        requires serves { Serves S.Store D.Stands self.old }
+        ensures window { ForLists S.Store D.Stands self.old self.new (λ L. IfOk result (λ found.
+            map entry_columns found.items ≡ map entry_columns (window number most L.rows))) }
+        ensures stands { ForLists S.Store D.Stands self.old self.new
+            (StandsFor S.Store D.Stands self.new) }
+        ensures survives { Survives (book_state S.Store self.old) (book_state S.Store self.new)
+            (λ _. ⊥) }
+        ensures serves { Serves S.Store D.Stands self.new }
+    {
+        self.store.entries_after(number, most)
+    }
+}
