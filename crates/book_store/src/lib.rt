@@ -7,4 +7,5 @@ mod restoring;
 mod store;
 
 pub use fault::NoteFault;
+pub use restoring::{Restored, advance, restore};
 pub use store::{BookStore, Heard};

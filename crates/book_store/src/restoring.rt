@@ -62,8 +62,8 @@ pub fn restore<S: Alter, D: KeepsRows + Drop>(
     Ok(Restored { guard, reading })
 }
 
-/// Takes in the commands behind those that were taken in, up to this number.
-fn advance<S: Alter, D: KeepsRows + Drop>(
+/// Takes in the commands behind those that were taken in, up to this number. Nothing changes in the file.
+pub fn advance<S: Alter, D: KeepsRows + Drop>(
     store: &mut LineStore<S, D>,
     guard: &mut Guard,
     from: u32,
