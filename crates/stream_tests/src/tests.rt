@@ -1,5 +1,6 @@
 //! Streams of lines and of requests, whole runs, and an owner without a store.
 
+mod both_lists;
 mod calls;
 mod failing;
 mod lengths;

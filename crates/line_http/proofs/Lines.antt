@@ -1,0 +1,141 @@
+-- Both lists of a store, as its routes see them.
+use Rattle.desk_types.proofs.Common.{[], ◌++◌, ◌+◌, ◌∙◌, ◌∷◌, ◌≡◌, ◌≢◌, ap, Basis, Err, false, IfOk, IsTrue}
+use Rattle.desk_types.proofs.Common.{List, map, map-append, None, Ok, Option, Result, Some, string_bytes, subst, sym, ℕ}
+use Rattle.desk_types.specs.Id.{Name}
+use Rattle.line_tables.proofs.Common.{Ghosts, HasCleanDisk}
+use Rattle.line_answers.specs.Fault.{fault_text}
+use Rattle.line_answers.specs.declared.fault.LineFault.{LineFault}
+use Rattle.line_answers.specs.declared.fault.LineFault.TheVariants.{NoMemory}
+use Rattle.line_answers.specs.declared.noted.Noted.{Noted}
+use Rattle.line_book.specs.declared.note.Matter.{Matter}
+use Rattle.line_book.specs.declared.note.Note.{Note}
+use Rattle.line_book.specs.declared.row.BookRow.{BookRow}
+use Rattle.line_book.specs.Rows.{IsColumn, kind_text}
+use Rattle.line_entries.specs.Columns.{columns_of, kind_of, of_number}
+use Rattle.line_entries.specs.Rows.{IsRowOf}
+use Rattle.line_entries.specs.Told.{told_text}
+use Rattle.line_schema.specs.declared.unavailable.Unavailable.{Unavailable as Fault}
+use Rattle.gateway_http.specs.Requests.{json}
+use Rattle.http_stream.specs.Answers.{response_told, Told}
+use Rattle.http_stream.specs.Stream.{Outcome}
+use Rattle.http_stream.specs.declared.response.Response.{Response}
+use Rattle.book_store.specs.declared.store.BookStore.{BookStore}
+use Rattle.book_store.specs.Ended.{Ends, with_note}
+use Rattle.book_store.specs.Heard.{nobody}
+use Rattle.book_store.specs.Lists.{book_state, Lists, StandsFor}
+use Rattle.book_store.specs.Said.{said_entry, Says}
+use Rattle.line_http.specs.Gives.{Gives, GivesOne}
+use Rattle.line_http.specs.Line.{column_text, Line, line_of, Represents, with_saying, Written, written, written_row}
+use Rattle.line_http.specs.Rule.{body_status, is_memory, leaving, said_outcome}
+
+-- ---- one entry more
+
+column_is : (text : List ℕ) (o : Option Name) → IsColumn text o → text ≡ column_text o
+column_is text None is = is
+column_is text (Some name) is = is.0
+
+row_is : (n : Note) (told : List ℕ) (row : BookRow) → IsRowOf n nobody told row → written_row row ≡ written n told
+row_is n told row is =
+    let kind : string_bytes row.kind ≡ kind_text (kind_of n.matter) = is.kind in
+    let source : string_bytes row.source ≡ [] = is.source in
+    let uid : string_bytes row.uid ≡ [] = is.uid in
+    let machine = column_is (string_bytes row.machine) (columns_of n.matter).machine is.columns.machine in
+    let slot = column_is (string_bytes row.slot) (columns_of n.matter).slot is.columns.slot in
+    let board = column_is (string_bytes row.board) (columns_of n.matter).board is.columns.board in
+    let reel = column_is (string_bytes row.reel) (columns_of n.matter).reel is.columns.reel in
+    let word = column_is (string_bytes row.word) (columns_of n.matter).word is.columns.word in
+    let of : row.of ≡ of_number n.carries n.matter = is.of in
+    let words : string_bytes row.told ≡ told_text told = is.told in
+    λ i. record {
+      number = is.number i;
+      after = is.after i;
+      kind = kind i;
+      source = source i;
+      uid = uid i;
+      machine = machine i;
+      slot = slot i;
+      board = board i;
+      reel = reel i;
+      word = word i;
+      of = of i;
+      told = words i;
+    }
+
+with_row : (L : Lists) (m : Matter) (told : List ℕ) (row : BookRow) → IsRowOf (said_entry L m) nobody told row
+    → line_of (with_note L row (said_entry L m)) ≡ with_saying (line_of L) m told
+with_row L m told row is =
+    let rows : map written_row (L.rows ++ row ∷ []) ≡ map written_row L.rows ++ written (said_entry L m) told ∷ []
+    = map-append written_row L.rows (row ∷ [])
+    ∙ ap (λ (w : Written). map written_row L.rows ++ w ∷ []) (row_is (said_entry L m) told row is) in
+    λ i. record { history = L.kept.history; notes = L.notes ++ said_entry L m ∷ []; rows = rows i }
+
+said_line : (L M : Lists) (m : Matter) (told : List ℕ) (number : ℕ) → Says L m told number M
+    → line_of M ≡ with_saying (line_of L) m told
+said_line L M m told number says = ap line_of says.3 ∙ with_row L m told says.1 says.2
+
+said_own : (L M : Lists) (m : Matter) (told : List ℕ) (number : ℕ) → Says L m told number M → IsTrue L.kept.own
+    → IsTrue M.kept.own
+said_own L M m told number says own = subst (λ (N : Lists). IsTrue N.kept.own) (sym says.3) own
+
+no_memory : (fault : LineFault) → is_memory fault ≡ false → fault ≢ NoMemory
+no_memory fault is same = let two = sym (ap is_memory same) ∙ is in cc
+
+-- ---- answers
+
+module _ {S D : Type 0} (g : Ghosts S) (F : D → Basis → Type 0) (old new : BookStore S D) where
+  pub still : (line : Line) (was : Represents g F old line) → StandsFor g F new was.lists → Represents g F new line
+  still line was stands = record { lists = was.lists; stands = stands; own = was.own; same = was.same }
+
+  -- What was said is in the book.
+  pub says_gives : {E : Type 0} (line : Line) (was : Represents g F old line) (m : Matter) (body : List ℕ) (number : ℕ)
+      → Ends {E = E} g F old new was.lists (Ok number) (Says was.lists m body)
+      → Represents g F new (with_saying line m body)
+  says_gives line was m body number ends =
+      let M = ends.ok.0 in
+      let says = ends.ok.1 in
+      record {
+        lists = M;
+        stands = ends.ok.2;
+        own = said_own was.lists M m body number says was.own;
+        same = ap (λ (l : Line). with_saying l m body) was.same ∙ sym (said_line was.lists M m body number says);
+      }
+
+  -- There is no answer.
+  pub failed : (r : Result Response Fault) (e : Fault) (o : Line → Outcome Line) → r ≡ Err e
+      → ((line : Line) → Represents g F old line → HasCleanDisk (book_state g new) → Represents g F new line)
+      → Gives g F old new r o
+  failed r e o is stays = subst (λ (r : Result Response Fault). Gives g F old new r o) (sym is)
+      (λ line was clean. (tt, stays line was clean))
+
+-- What is true of a lent store is true of it when it comes back.
+pub come_back : {S D : Type 0} (g : Ghosts S) (F : D → Basis → Type 0) (old lent new : BookStore S D)
+    (Fact : Line → Line → Type 0) → lent ≡ new
+    → ((line : Line) → Represents g F old line → HasCleanDisk (book_state g lent)
+    → (after : Line) × Represents g F lent after × Fact line after)
+    → (line : Line) → Represents g F old line → HasCleanDisk (book_state g new)
+    → (after : Line) × Represents g F new after × Fact line after
+come_back {S} {D} g F old lent new Fact same is = subst
+    (λ (s : BookStore S D). (line : Line) → Represents g F old line → HasCleanDisk (book_state g s)
+    → (after : Line) × Represents g F s after × Fact line after) same is
+
+module _ {S D : Type 0} (g : Ghosts S) (F : D → Basis → Type 0) (store : BookStore S D) (line : Line)
+    (now : Represents g F store line) where
+  -- An answer that leaves both lists.
+  pub told_gives : (r : Result Response Fault) (told want : Told) → told ≡ want
+      → IfOk r (λ response. response_told response ≡ told) → GivesOne g F store r line (leaving line want)
+  told_gives (Ok response) told want same is = ((is ∙ same, now), tt)
+  told_gives (Err e) told want same is = (tt, now)
+
+  gives_by : (r : Result Response Fault) (o p : Outcome Line) → o ≡ p → GivesOne g F store r line o
+      → GivesOne g F store r line p
+  gives_by r o p same gives = subst (λ (o : Outcome Line). GivesOne g F store r line o) same gives
+
+  -- A body that isn't taken.
+  pub fault_gives : (r : Result Response Fault) (fault : LineFault) (noted : Noted) (body : List ℕ)
+      (said : Result Matter LineFault) → (fault ≢ NoMemory → said ≡ Err fault)
+      → IfOk r (λ response. response_told response ≡ json (body_status fault) (fault_text fault))
+      → IfOk r (λ _. is_memory fault ≡ false) → GivesOne g F store r line (said_outcome line noted body said)
+  fault_gives (Ok response) fault noted body said is told known =
+      gives_by (Ok response) (said_outcome line noted body (Err fault)) (said_outcome line noted body said)
+      (ap (said_outcome line noted body) (sym (is (no_memory fault known)))) ((told, now), tt)
+  fault_gives (Err e) fault noted body said is told known = (tt, now)

@@ -1,0 +1,5 @@
+pub mod Asked
+pub mod Gives
+pub mod Line
+pub mod Routes
+pub mod Rule

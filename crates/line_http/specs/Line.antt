@@ -1,0 +1,107 @@
+-- Both lists of a line, as its own routes see them.
+use Rattle.std.specs.Prelude.{◌≡◌, ◌+◌, ◌++◌, ◌∷◌, [], ℕ, IsTrue, List, None, Option, Some, length, map, string_bytes}
+use Rattle.sqlite_trees.specs.declared.store.Store.{Ghosts}
+use Rattle.desk_types.specs.History.{Basis, History}
+use Rattle.desk_types.specs.Id.{Name}
+use Rattle.line_book.specs.declared.note.Matter.{Matter}
+use Rattle.line_book.specs.declared.note.Note.{Note}
+use Rattle.line_book.specs.declared.row.BookRow.{BookRow}
+use Rattle.line_book.specs.Book.{Book}
+use Rattle.line_book.specs.Rows.{kind_text}
+use Rattle.line_entries.specs.declared.entry.Place.{Place}
+use Rattle.line_entries.specs.Columns.{columns_of, kind_of, of_number}
+use Rattle.line_entries.specs.Rows.{note_at}
+use Rattle.line_entries.specs.Told.{told_text}
+use Rattle.book_store.specs.declared.store.BookStore.{BookStore}
+use Rattle.book_store.specs.Lists.{Lists, StandsFor}
+
+-- A row of the book: its numbers, and the bytes of its texts.
+pub record Written : Type 0 where
+  pub number : ℕ
+  pub after : ℕ
+  pub kind : List ℕ
+  pub source : List ℕ
+  pub uid : List ℕ
+  pub machine : List ℕ
+  pub slot : List ℕ
+  pub board : List ℕ
+  pub reel : List ℕ
+  pub word : List ℕ
+  pub of : ℕ
+  pub told : List ℕ
+
+-- The history of accepted commands, and the book: what its entries say, and how they are written.
+pub record Line : Type 0 where
+  pub history : History
+  pub notes : Book
+  pub rows : List Written
+
+-- ---- a store
+
+abbrev pub written_row : BookRow → Written
+written_row row = record {
+  number = row.number;
+  after = row.after;
+  kind = string_bytes row.kind;
+  source = string_bytes row.source;
+  uid = string_bytes row.uid;
+  machine = string_bytes row.machine;
+  slot = string_bytes row.slot;
+  board = string_bytes row.board;
+  reel = string_bytes row.reel;
+  word = string_bytes row.word;
+  of = row.of;
+  told = string_bytes row.told;
+}
+
+abbrev pub line_of : Lists → Line
+line_of L =
+    record { history = L.kept.history; notes = L.notes; rows = map written_row L.rows }
+
+-- The store represents these lists, in tables of its own.
+pub record Represents {S D : Type 0} (g : Ghosts S) (Desks : D → Basis → Type 0)
+    (store : BookStore S D) (line : Line) : Type 0 where
+  pub lists : Lists
+  pub stands : StandsFor g Desks store lists
+  pub own : IsTrue lists.kept.own
+  pub same : line ≡ line_of lists
+
+-- ---- what somebody says
+
+-- A name, or nothing without one.
+abbrev pub column_text : Option Name → List ℕ
+column_text None = []
+column_text (Some name) = name
+
+-- The row of an entry that no message made.
+abbrev pub written : Note → List ℕ → Written
+written n told = record {
+  number = n.number;
+  after = n.after;
+  kind = kind_text (kind_of n.matter);
+  source = [];
+  uid = [];
+  machine = column_text (columns_of n.matter).machine;
+  slot = column_text (columns_of n.matter).slot;
+  board = column_text (columns_of n.matter).board;
+  reel = column_text (columns_of n.matter).reel;
+  word = column_text (columns_of n.matter).word;
+  of = of_number n.carries n.matter;
+  told = told_text told;
+}
+
+-- The next entry: behind the others, at the end of the history.
+abbrev pub next_place : Line → Place
+next_place line =
+    record { number = length line.notes + 1; after = length line.history; carries = 0 }
+
+abbrev pub next_note : Line → Matter → Note
+next_note line m = note_at (next_place line) m []
+
+-- The book has one entry more: what somebody said with these words.
+abbrev pub with_saying : Line → Matter → List ℕ → Line
+with_saying line m told = record {
+  history = line.history;
+  notes = line.notes ++ next_note line m ∷ [];
+  rows = line.rows ++ written (next_note line m) told ∷ [];
+}
