@@ -51,7 +51,7 @@ def test_a_recall_reads_the_folder_and_what_is_lost(line: Line) -> None:
     assert line.call(line.ops("restore")).expect(4).out == planned.out
     line.serve()
     assert recalled(line, 3) == {"B1", "B2"}
-    line.seal().expect(4, "have that sender send them again")
+    line.seal().expect(4, "once its senders have sent again what it lacks")
     line.accept(*board("B3", 2))
     line.seal().expect(0)
     assert recalled(line) == {"B1", "B2", "B3"}

@@ -55,7 +55,8 @@ def calls_in(example: Example) -> Iterator[list[str]]:
     for word in [*lexer, ";"]:
         if OPERATORS.fullmatch(word):
             if call[:1] and call[0] in TOOLS:
-                yield call[: call.index(">")] if ">" in call else call
+                ends = [number for number, word in enumerate(call) if word in ("<", ">")]
+                yield call[: ends[0]] if ends else call
             call = []
         else:
             call.append(word)
