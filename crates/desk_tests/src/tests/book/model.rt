@@ -176,6 +176,17 @@ impl Lists {
         Ok(found)
     }
 
+    /// The open entries, oldest first.
+    pub fn open_notes(&self, alloc: Global) -> Result<Vec<Note>, AllocError> {
+        let mut found = Vec::new(alloc);
+        for note in self.notes.as_slice() {
+            if self.is_open(note) {
+                found.push(note.clone()?)?;
+            }
+        }
+        Ok(found)
+    }
+
     /// Whether an entry of the same refusal still stands.
     pub fn is_known(&self, refusal: &Note) -> bool {
         self.notes.as_slice().iter().any(|it| {
@@ -184,16 +195,19 @@ impl Lists {
         })
     }
 
-    pub fn is_working(&self, machine: &Id) -> bool {
-        let mut is_working = false;
+    /// The board in work on the machine.
+    pub fn board_on(&self, machine: &Id) -> Option<Id> {
+        let mut found = None;
         for it in self.commands.as_slice() {
             match &it.command {
-                Command::WorkStarted { machine: at, .. } if *at == *machine => is_working = true,
-                Command::WorkCompleted { machine: at, .. } if *at == *machine => is_working = false,
+                Command::WorkStarted { machine: at, board } if *at == *machine => {
+                    found = Some(*board)
+                }
+                Command::WorkCompleted { machine: at, .. } if *at == *machine => found = None,
                 _ => {}
             }
         }
-        is_working
+        found
     }
 
     fn is_allowed(&self, part: &Id, other: &Id) -> bool {
@@ -226,7 +240,7 @@ impl Lists {
         machine: &Id,
     ) -> Result<Vec<Cause>, AllocError> {
         let mut found = Vec::new(alloc);
-        if !self.is_working(machine) {
+        if self.board_on(machine).is_none() {
             found.push(Cause::NoWork)?;
         }
         let sheet = match desk.selected(machine) {

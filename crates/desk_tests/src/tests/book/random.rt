@@ -296,13 +296,15 @@ impl Both {
         met.count(causes.as_slice());
         let searched = self.lists.causes(alloc, desk, machine)?;
         let undecided = self.lists.undecided(alloc)?;
+        let open = self.lists.open_notes(alloc)?;
         if !undecided.is_empty() {
             met.undecided = met.undecided.saturating_add(1);
         }
         Ok(
             causes.as_slice() == searched.as_slice()
                 && self.guard.undecided() == undecided.as_slice()
-                && self.guard.board_on(machine).is_some() == self.lists.is_working(machine),
+                && self.guard.open_notes() == open.as_slice()
+                && self.guard.board_on(machine) == self.lists.board_on(machine),
         )
     }
 }
