@@ -61,7 +61,8 @@ def sent(
     folder: pathlib.Path, url: str, *words: Any, given: bytes = b"", **how: Any
 ) -> "subprocess.CompletedProcess[bytes]":
     """Puts messages into the folder's spool, and sends what waits there."""
-    head = [sys.executable, SENDER, "--url", url, "--spool", folder / "spool", "--follow", "-"]
+    spool = ["--spool", str(folder / "spool"), "--follow", "-"]
+    head = [sys.executable, str(SENDER), "--url", url, *spool]
     return subprocess.run(
         [*head, *words], input=given, capture_output=True, timeout=PATIENCE, **how
     )

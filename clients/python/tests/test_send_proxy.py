@@ -46,8 +46,8 @@ def test_the_longest_message_passes(program: pathlib.Path, tmp_path: pathlib.Pat
     with served(program, tmp_path) as port:
         for given in (fits, b"", b""):
             proxy = Proxy(port, [turns_away] * 50)
-            more = {"ends": (4, 0), "said": "too long", "given": given}
-            expect(tmp_path, proxy.url, "--patience", "2", **more)
+            words = [proxy.url, "--patience", "2"]
+            expect(tmp_path, *words, ends=(4, 0), said="too long", given=given)
             assert len(proxy.came) == 1
         expect(tmp_path, f"http://127.0.0.1:{port}", ends=(0, 1))
 
