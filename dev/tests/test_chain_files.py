@@ -336,7 +336,7 @@ def test_a_line_for_each_file_has_its_mark(files: Files) -> None:
     assert done.stderr.splitlines() == [
         "tracedesk-chain: a.db: 9 commands, last minute 12; 3 to go",
         f"tracedesk-chain: b.db: 23 commands, last minute 32, begun from {marks['a.db']}; 2 to go",
-        f"tracedesk-chain: c.db: 27 commands, last minute 42, begun from {marks['b.db']}; 1 to go",
+        f"tracedesk-chain: c.db: 25 commands, last minute 42, begun from {marks['b.db']}; 1 to go",
     ]
 
 
