@@ -2,11 +2,11 @@
 use Rattle.desk_types.proofs.Common.{◌≡◌, arith, History, inl, inr, List, Option, refl, ℕ}
 use Rattle.desk_laws.proofs.Common.{Wire}
 use Rattle.desk_answers.specs.Ledger.{Ledger}
-use Rattle.desk_commands.specs.{Clients.Serving, Connections.AnswersEach, Ends.FeedEnds, Ends.ImportEnds}
+use Rattle.desk_commands.specs.{Clients.Exchange, Clients.Serving, Ends.FeedEnds, Ends.ImportEnds}
 use Rattle.desk_commands.specs.{Ends.PrintEnds, Ends.ReportEnds, Ends.ServingEnds, OpenRuns.AnswersAll}
 use Rattle.desk_commands.specs.{OpenRuns.AnswersImport, OpenRuns.AnswersUpTo, OpenRuns.CutsImport}
 use Rattle.desk_commands.specs.{OpenRuns.StaysSame}
-use Rattle.http_stream.specs.{Answers.Told, Stream.Rule}
+use Rattle.http_stream.specs.{Answers.Told}
 use Rattle.imports.specs.declared.import.Import.{Import}
 
 module _ {R W E : Type 0} {reads : R → Option (List ℕ)} {writes : W → Option (List ℕ)} {tells : E → Option (List ℕ)}
@@ -40,11 +40,11 @@ module _ {W E : Type 0} {writes : W → Option (List ℕ)} {tells : E → Option
     well = row.well;
   }
 
-  pub serving_follows : {connections : ℕ} {rule : Rule Ledger} {Serves : Serving → Type 0} {Runs Runs' : (Ledger → History → Type 0) → Type 0} → ServingEnds writes tells output output' errors errors' connections rule Serves Runs NoDesk exit
-      → ((Fact : Ledger → History → Type 0) → Runs Fact → Runs' Fact) → (NoDesk → NoDesk') → ServingEnds writes tells output output' errors errors' connections rule Serves Runs' NoDesk' exit
-  serving_follows {rule = rule} run to none = record {
+  pub serving_follows : {connections : ℕ} {Serves : Serving → Type 0} {Answers Answers' : List Exchange → Type 0} → ServingEnds writes tells output output' errors errors' connections Serves Answers NoDesk exit
+      → ((es : List Exchange) → Answers es → Answers' es) → (NoDesk → NoDesk') → ServingEnds writes tells output output' errors errors' connections Serves Answers' NoDesk' exit
+  serving_follows run to none = record {
     status = run.status;
-    served = λ is. let all = run.served is in (all.0, all.1, all.2, to (AnswersEach rule all.0.exchanges) all.3);
+    served = λ is. let all = run.served is in (all.0, all.1, all.2, to all.0.exchanges all.3);
     no_desk = λ is. none (run.no_desk is);
     untouched = run.untouched;
     failed = run.failed;
@@ -101,7 +101,7 @@ module _ {W E : Type 0} {writes : W → Option (List ℕ)} {tells : E → Option
     well = λ at. absurd (omega (arith, is, at));
   }
 
-  pub serving_refused : {connections : ℕ} {rule : Rule Ledger} {Serves : Serving → Type 0} {Runs : (Ledger → History → Type 0) → Type 0} → exit ≡ 3 → NoDesk → ServingEnds writes tells output output errors errors' connections rule Serves Runs NoDesk exit
+  pub serving_refused : {connections : ℕ} {Serves : Serving → Type 0} {Answers : List Exchange → Type 0} → exit ≡ 3 → NoDesk → ServingEnds writes tells output output errors errors' connections Serves Answers NoDesk exit
   serving_refused is none = record {
     status = inr (inr (inl is));
     served = λ at. absurd (omega (arith, is, at));

@@ -10,18 +10,23 @@ use Rattle.desk_answers.specs.declared.serving.ServeFault.TheVariants.{Read, Wri
 use Rattle.http_stream.specs.Stream.{Rule, AnswersConnection}
 use Rattle.desk_commands.specs.Clients.{Ended, Exchange, Stop, served_all, no_port, no_client, no_line}
 
--- ---- the history
+-- ---- the state
 
--- The client of this connection sent these bytes and received their answers by the ledger before it, and the history
--- became this one.
-abbrev pub Connected : Rule Ledger → Ledger → Exchange → History → Type 0
-Connected rule G e H = AnswersConnection rule e.sent e.unread e.before e.after e.ended G
-    (record G { history = H })
+-- The client of this connection sent these bytes and received their answers by the state before it, which became this
+-- one.
+abbrev pub Connected : {S : Type 0} → Rule S → S → Exchange → S → Type 0
+Connected rule s e s' = AnswersConnection rule e.sent e.unread e.before e.after e.ended s s'
 
--- Each connection was answered by the history that the previous one left.
+-- Each connection was answered by the state that the previous one left.
+abbrev pub AnswersInTurn : {S : Type 0} → Rule S → List Exchange → S → S → Type 0
+AnswersInTurn rule [] s s' = s' ≡ s
+AnswersInTurn {S = S} rule (e ∷ es) s s' = (mid : S) × Connected rule s e mid
+    × AnswersInTurn rule es mid s'
+
+-- The same of a ledger, of which only the history changes.
 abbrev pub AnswersEach : Rule Ledger → List Exchange → Ledger → History → Type 0
 AnswersEach rule [] G H = H ≡ G.history
-AnswersEach rule (e ∷ es) G H = (H₁ : History) × Connected rule G e H₁
+AnswersEach rule (e ∷ es) G H = (H₁ : History) × Connected rule G e (record G { history = H₁ })
     × AnswersEach rule es (record G { history = H₁ }) H
 
 -- ---- the lines

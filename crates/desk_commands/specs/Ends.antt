@@ -18,9 +18,8 @@ use Rattle.desk_answers.specs.Shown.{IsShown}
 use Rattle.desk_feed.specs.Stream.{LeavesNone}
 use Rattle.imports.specs.declared.import.Import.{Import}
 use Rattle.http_stream.specs.Answers.{Told, code_of}
-use Rattle.http_stream.specs.Stream.{Rule}
-use Rattle.desk_commands.specs.Clients.{Serving, ends_of}
-use Rattle.desk_commands.specs.Connections.{AnswersEach, TellsConnections}
+use Rattle.desk_commands.specs.Clients.{Exchange, Serving, ends_of}
+use Rattle.desk_commands.specs.Connections.{TellsConnections}
 use Rattle.desk_commands.specs.OpenRuns.{AnswersAll, AnswersImport, AnswersUpTo, CutsImport, StaysSame}
 use Rattle.desk_commands.specs.Told.{fault_line, report_output, TellsEnd, TellsLine, TellsUnwritten}
 use Rattle.desk_commands.specs.Wires.{FeedsWell, GoesWell}
@@ -69,19 +68,19 @@ pub record ImportEnds {W E : Type 0} (writes : W → Option (List ℕ)) (tells :
       × Runs StaysSame)
   pub well : (exit ≡ 0) ⊎ (exit ≡ 1) → GoesWell output output' errors errors'
 
--- Connections up to this number, each by the rule; fewer only with status 4. `Serves` says which connections the port
--- had, and how it had no more.
+-- Connections up to this number, which `Answers` says were answered; fewer only with status 4. `Serves` says which
+-- connections the port had, and how it had no more.
 pub record ServingEnds {W E : Type 0} (writes : W → Option (List ℕ)) (tells : E → Option (List ℕ))
     (output output' : Wire W) (errors errors' : Wire E)
-    (connections : ℕ) (rule : Rule Ledger) (Serves : Serving → Type 0)
-    (Runs : (Ledger → History → Type 0) → Type 0) (NoDesk : Type 0) (exit : ℕ) : Type 0 where
+    (connections : ℕ) (Serves : Serving → Type 0) (Answers : List Exchange → Type 0)
+    (NoDesk : Type 0) (exit : ℕ) : Type 0 where
   pub status : (exit ≡ 0) ⊎ (exit ≡ 1) ⊎ (exit ≡ 3) ⊎ (exit ≡ 4)
   pub served : (exit ≡ 0) ⊎ (exit ≡ 1) ⊎ (exit ≡ 4)
       → (serving : Serving)
       × TellsConnections connections (ends_of serving.exchanges) serving.stop exit
       (writes (inner_of output)) (writes (inner_of output')) (failures_of output)
       (failures_of output')
-      × Serves serving × Runs (AnswersEach rule serving.exchanges)
+      × Serves serving × Answers serving.exchanges
   pub no_desk : exit ≡ 3 → NoDesk
   pub untouched : exit ≡ 3 → output' ≡ output
   pub failed : exit ≡ 4 → TellsEnd tells output output' errors errors'

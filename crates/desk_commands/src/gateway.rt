@@ -2,7 +2,6 @@
 
 ghost use Rattle.std.specs.Prelude.{◌≡◌, ◌≤◌, ◌||◌, None, Some};
 ghost use Rattle.desk_types.specs.declared.limits.TheConstants.{MOST_ENTRIES};
-ghost use Rattle.gateway_http.specs.Requests.{request_rule};
 ghost use Rattle.gateway_http.specs.Reports.{report_of};
 ghost use Rattle.desk_commands.specs.Clients.{ServesAt};
 ghost use Rattle.desk_file.specs.Opened.{has_opened};
@@ -11,11 +10,11 @@ ghost use Rattle.desk_commands.specs.Ends.{ReportEnds, ServingEnds};
 ghost use Rattle.desk_commands.specs.OpenRuns.{AnswersReport};
 ghost use Rattle.desk_commands.specs.Told.{TellsLine};
 ghost use Rattle.desk_commands.specs.Wires.{HaveFewFailures};
-ghost use Rattle.desk_commands.specs.Runs.{HasNoDesk, LeavesDesk, Refuses, RunsOn};
+ghost use Rattle.desk_commands.specs.Runs.{HasNoDesk, LeavesDesk, Refuses, RunsOn, ServesEach};
 
 use crate::clients::Clients;
 use crate::left::ToClose;
-use crate::port::{serve_port, tell_report};
+use crate::port::{serve_owner, tell_report};
 use crate::refusal::tell_refusal;
 use desk_file::{FileOpener, open_desk};
 use desk_types::Wire;
@@ -42,8 +41,8 @@ pub fn serve_in_file<T: Start, C: Clients, W: Write, E: Write>(
     requires few { HaveFewFailures output.old errors.old }
     // Each way to end; where the desk was refused no client was waited for.
     ensures ends { ServingEnds W.contents E.contents output.old output.new errors.old errors.new
-        connections (request_rule report_of) (ServesAt C.Saw clients.old clients.new port)
-        (RunsOn T.Start (Some greatest) result.1)
+        connections (ServesAt C.Saw clients.old clients.new port)
+        (λ es. RunsOn T.Start (Some greatest) result.1 (ServesEach es))
         (HasNoDesk (Refuses T.Start (Some greatest) result.1) ⊥
         (TellsLine E.contents errors.old errors.new) × (clients.new ≡ clients.old)) result.0 }
     ensures left { LeavesDesk result.1 }
@@ -52,7 +51,7 @@ pub fn serve_in_file<T: Start, C: Clients, W: Write, E: Write>(
     match open_desk::<T, StateDesk>(rt, file, opener, Some(greatest)) {
         Ok(store) => {
             let mut store = store;
-            let status = serve_port(
+            let status = serve_owner(
                 rt.alloc(),
                 clients,
                 port,

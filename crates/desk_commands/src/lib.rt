@@ -25,6 +25,6 @@ pub use import::import_rows;
 pub use left::ToClose;
 pub use lines::feed_lines;
 pub use looks::{audit_file, migrate_file};
-pub use port::{serve_port, tell_report};
+pub use port::{serve_owner, serve_port, tell_report};
 pub use serving::serve_listener;
 pub use texts::{send_text, tell_lawful};

@@ -4,16 +4,15 @@ ghost use Rattle.std.specs.Prelude.{◌≡◌, ◌<◌, ◌+◌, ◌^◌, [], �
 ghost use Rattle.std.specs.Io.KnownBytes.{Appends};
 ghost use Rattle.desk_types.specs.Wire.{inner_of, failures_of};
 ghost use Rattle.desk_answers.specs.Sent.{SendsFront};
-ghost use Rattle.desk_answers.specs.Ledger.{ForLists};
-ghost use Rattle.gateway_http.specs.Requests.{request_rule};
+ghost use Rattle.http_stream.specs.Stream.{ForStates, StaysLent};
 ghost use Rattle.desk_commands.specs.Clients.{Exchange, Sees, Serving, ServesOn, ends_of, events_in};
 ghost use Rattle.desk_commands.specs.Clients.Event.{none_came};
-ghost use Rattle.desk_commands.specs.Connections.{AnswersEach, Connected, TellsConnections, connection_line, fault_word, is_faulty, served_of};
+ghost use Rattle.desk_commands.specs.Connections.{AnswersInTurn, Connected, TellsConnections, connection_line, fault_word, is_faulty, served_of};
 
 use crate::clients::Clients;
 use desk_answers::{ServeFault, Served, WriteFailed, send};
 use desk_types::Wire;
-use gateway_http::{ReportedOwner, serve};
+use http_stream::{Handler, serve};
 use itoa::Buffer;
 use std::alloc::Global;
 use std::io::Write;
@@ -24,29 +23,28 @@ use std::io::Write;
 ///
 /// Returns the exit status: 0; 1 if a request was refused or a connection ended with a fault; 4 if no further
 /// connection could be accepted, or if a line could not be written, which a failure of `output` shows.
-pub fn serve_listener<L: ReportedOwner, C: Clients, W: Write>(
+pub fn serve_listener<H: Handler, C: Clients, W: Write>(
     alloc: Global,
     clients: &mut C,
     connections: u32,
     output: &mut Wire<W>,
-    owner: &mut L,
+    handler: &mut H,
 ) -> u8
     requires few_failures { failures_of output.old < 2 ^ 63 }
-    requires ready { L.Ready owner.old }
-    ensures ready { L.Ready owner.new }
-    ensures trusts { L.Trusts owner.new → L.Trusts owner.old }
-    // One line for each connection, in order, with what it was answered by the rules.
+    requires ready { H.Ready handler.old }
+    ensures stays { StaysLent H.Ready H.Trusts H.held handler.old handler.new }
+    // One line for each connection, in order, with what it was answered by the rule.
     ensures told { (serving : Serving)
         × TellsConnections connections (ends_of serving.exchanges) serving.stop result
         (W.contents (inner_of output.old)) (W.contents (inner_of output.new))
         (failures_of output.old) (failures_of output.new)
         × ServesOn C.Saw clients.old clients.new serving
-        × ForLists L.Stands L.Trusts owner.old owner.new
-        (AnswersEach (request_rule L.reports) serving.exchanges) }
+        × ForStates H.Stands H.Trusts handler.old handler.new
+        (AnswersInTurn H.rule serving.exchanges) }
 {
     let mut faulty = false;
     for k in 0..connections {
-        let Some(ended) = serve_next(alloc, clients, owner) else {
+        let Some(ended) = serve_next(alloc, clients, handler) else {
             return 4;
         };
         faulty |= is_faulty(&ended);
@@ -58,27 +56,26 @@ pub fn serve_listener<L: ReportedOwner, C: Clients, W: Write>(
     u8::from(faulty)
 }
 
-fn serve_next<L: ReportedOwner, C: Clients>(
+fn serve_next<H: Handler, C: Clients>(
     alloc: Global,
     clients: &mut C,
-    owner: &mut L,
+    handler: &mut H,
 ) -> Option<Result<Served, ServeFault>>
-    requires ready { L.Ready owner.old }
-    ensures ready { L.Ready owner.new }
-    ensures trusts { L.Trusts owner.new → L.Trusts owner.old }
+    requires ready { H.Ready handler.old }
+    ensures stays { StaysLent H.Ready H.Trusts H.held handler.old handler.new }
     ensures none { result ≡ None
-        → (owner.new ≡ owner.old) × Sees C.Saw clients.old clients.new (none_came ∷ []) }
+        → (handler.new ≡ handler.old) × Sees C.Saw clients.old clients.new (none_came ∷ []) }
     ensures served { IfSome result (λ ended. (exchange : Exchange) × (exchange.ended ≡ ended)
         × Sees C.Saw clients.old clients.new (events_in exchange)
-        × ForLists L.Stands L.Trusts owner.old owner.new
-        (λ G. Connected (request_rule L.reports) G exchange)) }
+        × ForStates H.Stands H.Trusts handler.old handler.new
+        (λ s. Connected H.rule s exchange)) }
 {
     let Ok((reader, writer)) = clients.accept() else {
         return None;
     };
     let mut input = Wire::new(reader);
     let mut answers = Wire::new(writer);
-    let ended = serve(alloc, &mut input, &mut answers, owner);
+    let ended = serve(alloc, &mut input, &mut answers, handler);
     clients.leave(input.into_inner(), answers.into_inner());
     Some(ended)
 }

@@ -4,7 +4,7 @@ use Rattle.desk_types.proofs.Common.{inner_of, inr, List, None, Option, refl, So
 use Rattle.desk_laws.proofs.Common.{Wire}
 use Rattle.desk_answers.specs.{Counts.none_served, Ledger.Ledger, Sent.SendsFront}
 use Rattle.desk_answers.specs.{declared.serving.ServeFault.TheVariants.Write}
-use Rattle.desk_commands.specs.{Clients.ends_of, Clients.Exchange, Clients.Serving, Connections.AnswersEach}
+use Rattle.desk_commands.specs.{Clients.ends_of, Clients.Serving}
 use Rattle.desk_commands.specs.{Connections.TellsConnections, Ends.FeedEnds, Ends.ImportEnds, Ends.PrintEnds}
 use Rattle.desk_commands.specs.{Ends.ReportEnds, Ends.ServingEnds, OpenRuns.AnswersAll}
 use Rattle.desk_commands.specs.{OpenRuns.AnswersImport, OpenRuns.AnswersReport, OpenRuns.AnswersUpTo}
@@ -18,7 +18,7 @@ use Rattle.desk_program.specs.{Program.RunsImport, Program.RunsReport, Program.R
 use Rattle.desk_words.specs.CommandLine.{AsksForAudit, AsksForFeed, AsksForImport, AsksForMigration}
 use Rattle.desk_words.specs.CommandLine.{AsksForReport, AsksForServing}
 use Rattle.gateway_http.specs.Reports.{report_of}
-use Rattle.http_stream.specs.{Answers.code_of, Answers.Told, Stream.Rule}
+use Rattle.http_stream.specs.{Answers.code_of, Answers.Told}
 use Rattle.imports.specs.declared.import.Import.{Import}
 use Rattle.line_schema.specs.declared.fault.OpenFault.{OpenFault}
 use Rattle.sqlite_disk.specs.declared.Disk as disk
@@ -34,13 +34,13 @@ pub runs_report : (ways : Ways) (words : List (List ℕ)) (Shown : Told → Type
 runs_report ways words Shown file target path answer asks is shown runs =
     (file, target, asks, answer, shown, subst (λ (at : List ℕ). ways.Runs None (AnswersReport report_of at answer)) is runs)
 
-pub runs_serving : {W : Type 0} (ways : Ways) (words : List (List ℕ)) (serves : ℕ → Serving → Type 0) (contents : W → Option (List ℕ)) (output output' : Wire W) (rule : Rule Ledger)
+pub runs_serving : {W : Type 0} (ways : Ways) (words : List (List ℕ)) (serves : ℕ → Serving → Type 0) (contents : W → Option (List ℕ)) (output output' : Wire W)
     (file : List ℕ) (port connections greatest status told : ℕ) → AsksForServing words file port connections greatest → status ≡ told
-    → (serving : Serving) × TellsConnections connections (ends_of serving.exchanges) serving.stop status (contents (inner_of output)) (contents (inner_of output')) (failures_of output) (failures_of output') × serves port serving × ways.Runs (Some greatest) (AnswersEach rule serving.exchanges)
-    → ((exchanges : List Exchange) → ways.Runs (Some greatest) (AnswersEach rule exchanges) → ways.Runs (Some greatest) (ServesEach exchanges)) → RunsServing ways words serves contents output output' told
-runs_serving ways words serves contents output output' rule file port connections greatest status told asks is served to =
-    let all = subst (λ (n : ℕ). (serving : Serving) × TellsConnections connections (ends_of serving.exchanges) serving.stop n (contents (inner_of output)) (contents (inner_of output')) (failures_of output) (failures_of output') × serves port serving × ways.Runs (Some greatest) (AnswersEach rule serving.exchanges)) is served in
-    (file, port, connections, greatest, asks, all.0, all.1, all.2, to all.0.exchanges all.3)
+    → (serving : Serving) × TellsConnections connections (ends_of serving.exchanges) serving.stop status (contents (inner_of output)) (contents (inner_of output')) (failures_of output) (failures_of output') × serves port serving × ways.Runs (Some greatest) (ServesEach serving.exchanges)
+    → RunsServing ways words serves contents output output' told
+runs_serving ways words serves contents output output' file port connections greatest status told asks is served =
+    let all = subst (λ (n : ℕ). (serving : Serving) × TellsConnections connections (ends_of serving.exchanges) serving.stop n (contents (inner_of output)) (contents (inner_of output')) (failures_of output) (failures_of output') × serves port serving × ways.Runs (Some greatest) (ServesEach serving.exchanges)) is served in
+    (file, port, connections, greatest, asks, all.0, all.1, all.2, all.3)
 
 pub has_none : (IsRefused IsRefused' : OpenFault → Type 0) (IsLeft IsLeft' : Type 0) (Told : List ℕ → Type 0) → ((fault : OpenFault) → IsRefused fault → IsRefused' fault) → (IsLeft → IsLeft')
     → HasNoDesk IsRefused IsLeft Told → HasNoDesk IsRefused' IsLeft' Told
@@ -116,21 +116,21 @@ module _ {R W E : Type 0} (ways : Ways) {holds : List ℕ → Option (List ℕ)}
 
 module _ {R W E : Type 0} (ways : Ways) {holds : List ℕ → Option (List ℕ)} {may_fail : List ℕ → Type 0} {serves : ℕ → Serving → Type 0} {reads : R → Option (List ℕ)} {writes : W → Option (List ℕ)} {tells : E → Option (List ℕ)}
     {words : List (List ℕ)} {input : Wire R} {output output' : Wire W} {errors errors' : Wire E} {exit : ℕ} where
-  pub serves_asked : (file : List ℕ) (port connections greatest : ℕ) {rule : Rule Ledger} {Unasked : Type 0} → AsksForServing words file port connections greatest
-      → ServingEnds writes tells output output' errors errors' connections rule (serves port) (ways.Runs (Some greatest)) (HasNoDesk (ways.Refuses (Some greatest)) ⊥ (TellsLine tells errors errors') × Unasked) exit
-      → ((exchanges : List Exchange) → ways.Runs (Some greatest) (AnswersEach rule exchanges) → ways.Runs (Some greatest) (ServesEach exchanges)) → LeavesAs ways holds may_fail serves reads writes tells words input input output output' errors errors' exit
-  serves_asked file port connections greatest {rule = rule} asks run to =
+  pub serves_asked : (file : List ℕ) (port connections greatest : ℕ) {Unasked : Type 0} → AsksForServing words file port connections greatest
+      → ServingEnds writes tells output output' errors errors' connections (serves port) (λ es. ways.Runs (Some greatest) (ServesEach es)) (HasNoDesk (ways.Refuses (Some greatest)) ⊥ (TellsLine tells errors errors') × Unasked) exit
+      → LeavesAs ways holds may_fail serves reads writes tells words input input output output' errors errors' exit
+  serves_asked file port connections greatest asks run =
       let at = run.status in record {
         status = omega (arith, at);
-        done = λ is. inr (inr (inr (inr (inr (inl (runs_serving ways words serves writes output output' rule file port connections greatest exit 0 asks is (run.served (inl is)) to))))));
-        refused = λ is. inr (inr (inl (runs_serving ways words serves writes output output' rule file port connections greatest exit 1 asks is (run.served (inr (inl is))) to)));
+        done = λ is. inr (inr (inr (inr (inr (inl (runs_serving ways words serves writes output output' file port connections greatest exit 0 asks is (run.served (inl is))))))));
+        refused = λ is. inr (inr (inl (runs_serving ways words serves writes output output' file port connections greatest exit 1 asks is (run.served (inr (inl is))))));
         bad = λ is. absurd (omega (arith, at, is));
         no_desk = λ is. (
           (refl, run.untouched is),
           has_none (ways.Refuses (Some greatest)) (RefusesNamed ways words) ⊥ (ways.OpensNone ⊎ ways.Runs None StaysSame) (TellsLine tells errors errors')
               (λ fault refuses. inr (inl (file, port, connections, greatest, asks, refuses))) (λ none. absurd none) (run.no_desk is).0,
         );
-        failed = λ is. inr (inr (refl, run.failed is, runs_serving ways words serves writes output output' rule file port connections greatest exit 4 asks is (run.served (inr (inr is))) to));
+        failed = λ is. inr (inr (refl, run.failed is, runs_serving ways words serves writes output output' file port connections greatest exit 4 asks is (run.served (inr (inr is)))));
         kept = λ is. (refl, (run.well is).kept);
         quiet = λ is. (run.well is).quiet;
       }

@@ -13,10 +13,10 @@ use Rattle.http_stream.specs.Cut.{bad_head, head_too_large, Portion, starved, un
 use Rattle.http_stream.specs.Stream.{answer, Answered, AnswersConnection, ForStates, outcome, state_after}
 use Rattle.gateway_http.specs.declared.asked.Asked.TheVariants as asks
 
-abbrev Keeps : Ledger → Ledger → Type 0
+abbrev pub Keeps : Ledger → Ledger → Type 0
 Keeps G G' = G' ≡ record G { history = G'.history }
 
-then-keeps : (G G₁ G₂ : Ledger) → Keeps G G₁ → Keeps G₁ G₂ → Keeps G G₂
+pub then-keeps : (G G₁ G₂ : Ledger) → Keeps G G₁ → Keeps G₁ G₂ → Keeps G G₂
 then-keeps G G₁ G₂ first more = more ∙ ap (λ (L : Ledger). record L { history = G₂.history }) first
 
 module _ (reports : Reports) where
@@ -48,7 +48,7 @@ module _ (reports : Reports) where
   answered-keeps {G} {ps = ps} {marks = marks} is = subst (Keeps G) (sym is.state) (all-keep marks G ps)
 
   module _ (input input' out out' : Option (List ℕ)) where
-    connection-keeps : (ended : Result Served ServeFault) (G G' : Ledger)
+    pub connection-keeps : (ended : Result Served ServeFault) (G G' : Ledger)
         → AnswersConnection (request_rule reports) input input' out out' ended G G' → Keeps G G'
     connection-keeps (Ok served) G G' (ps, marks, cut, is) = answered-keeps is
     connection-keeps (Err (Read served)) G G' (ps, marks, front, is) = answered-keeps is

@@ -20,11 +20,11 @@ use line_schema::Unavailable;
 use std::alloc::Global;
 use std::io::{Read, Write};
 
-/// An owner with the routes of a connection, which its first request makes. If memory for them is refused, the next
-/// request tries again.
-struct Gateway<'a, L> {
-    owner: &'a mut L,
-    routes: &'a mut Option<RouteTable>,
+/// An owner with the routes, which the first request makes. If memory for them is refused, the next request tries
+/// again.
+pub struct Gateway<'a, L> {
+    pub owner: &'a mut L,
+    pub routes: &'a mut Option<RouteTable>,
 }
 
 /// It answers by the gateway's rule, with its owner's reports.

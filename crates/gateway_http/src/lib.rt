@@ -25,7 +25,7 @@ pub use answers::answer_report;
 pub use asked::{Asked, Report, cut_target};
 pub use desk_answers::{ServeFault, Served};
 pub use fault::AskFault;
-pub use gateway::{ask, serve};
+pub use gateway::{Gateway, ask, serve};
 pub use http_stream::{Body, MediaType, Response, Status};
 pub use law::{questions_leave_the_list, repeats_leave_the_list};
 pub use line_schema::Unavailable;

@@ -48,7 +48,11 @@ fn sockets(rt: HostRuntime) -> Result<(), Fail> {
     caller.shutdown(Shutdown::Write)?;
     let mut clients = Callers { listener };
     let mut output = Wire::new(Vec::new(rt.alloc()));
-    let status = serve_listener(rt.alloc(), &mut clients, 1, &mut output, &mut Full);
+    let mut handler = Gateway {
+        owner: &mut Full,
+        routes: &mut None,
+    };
+    let status = serve_listener(rt.alloc(), &mut clients, 1, &mut output, &mut handler);
     let mut told = Vec::new(rt.alloc());
     caller.read_to_end(&mut told)?;
     assert_eq!(rt; status, 1);

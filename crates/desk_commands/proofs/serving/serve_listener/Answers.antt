@@ -9,7 +9,6 @@ use Rattle.desk_commands.proofs.ListsAfter.{ends_more, faulty_more, Serves, serv
 use Rattle.desk_commands.specs.Clients.{ends_of, events_in, Exchange, no_client, no_line, served_all}
 use Rattle.desk_commands.specs.Clients.Event.{none_came}
 use Rattle.desk_commands.specs.Connections.{connection_line, is_faulty, lines_from}
-use Rattle.gateway_http.specs.Requests.{request_rule}
 use Rattle.std.specs.Prelude.{flat_map}
 use Rattle.desk_commands.proofs.serving.serve_listener.Goals as goal
 
@@ -23,7 +22,7 @@ returns-in_default-clause-told g c =
       record { exchanges = inv.exchanges; stop = no_client },
       (omega (arith, count, below), refl, inv.lines, inv.failures),
       (sees_more g.C.Clients.Saw c.args.clients.now c.loop-k.clients c.serve_next.new.clients (flat_map events_in inv.exchanges) (none_came ∷ []) inv.seen seen, client_no_port),
-      subst (Serves (request_rule g.L.ReportedOwner.reports) g.L.Owner.Stands g.L.Owner.Trusts c.args.owner.now inv.exchanges) (sym same) inv.served,
+      subst (Serves g.H.Handler.rule g.H.Handler.Stands g.H.Handler.Trusts c.args.handler.now inv.exchanges) (sym same) inv.served,
     )
 
 pub returns-clause-told : goal.returns-clause-told
@@ -58,8 +57,8 @@ returns-in-Err-clause-told g c =
       record { exchanges = exchanges; stop = no_line },
       (omega (arith, count, long, below), refl, omega (arith, failed, before), ends_of inv.exchanges, c.in-Some.ended, mid, ends, inv.lines, line),
       (sees_all g.C.Clients.Saw c.args.clients.now c.serve_next.new.clients (flat_map events_in exchanges) (sees_one_more g.C.Clients.Saw c.args.clients.now c.loop-k.clients c.serve_next.new.clients inv.exchanges e inv.seen seen), line_no_port),
-      serves_more (request_rule g.L.ReportedOwner.reports) g.L.Owner.Stands g.L.Owner.Trusts c.args.owner.now c.loop-k.owner c.serve_next.new.owner inv.exchanges e
-          c.serve_next.ensures.trusts inv.served served,
+      serves_more g.H.Handler.rule g.H.Handler.Stands g.H.Handler.Trusts c.args.handler.now c.loop-k.handler c.serve_next.new.handler inv.exchanges e
+          c.serve_next.ensures.stays.trusts inv.served served,
     )
 
 pub loop-k-preserved : goal.loop-k-preserved
@@ -80,9 +79,8 @@ loop-k-preserved g c =
       lines = subst (Appends out₀ out₂) (sym lines) (Appends-trans out₀ out₁ out₂ (lines_from 1 (ends_of inv.exchanges)) (connection_line (c.from.result + 1) c.in-Some.ended) inv.lines c.in-Ok.ensures.ok);
       failures = c.in-Ok.ensures.kept ∙ inv.failures;
       faulty = faulty_more c.loop-k.faulty c.is_faulty-faulty.result (ends_of inv.exchanges) c.in-Some.ended inv.faulty c.is_faulty-faulty.ensures ∙ sym (ap (list_any is_faulty) ends);
-      ready = c.serve_next.ensures.ready;
-      trusts = λ trusts. inv.trusts (c.serve_next.ensures.trusts trusts);
+      stays = record { ready = c.serve_next.ensures.stays.ready; trusts = λ trusts. inv.stays.trusts (c.serve_next.ensures.stays.trusts trusts); borrow = c.serve_next.ensures.stays.borrow ∙ inv.stays.borrow };
       seen = sees_one_more g.C.Clients.Saw c.args.clients.now c.loop-k.clients c.serve_next.new.clients inv.exchanges e inv.seen seen;
-      served = serves_more (request_rule g.L.ReportedOwner.reports) g.L.Owner.Stands g.L.Owner.Trusts c.args.owner.now c.loop-k.owner c.serve_next.new.owner inv.exchanges e
-          c.serve_next.ensures.trusts inv.served served;
+      served = serves_more g.H.Handler.rule g.H.Handler.Stands g.H.Handler.Trusts c.args.handler.now c.loop-k.handler c.serve_next.new.handler inv.exchanges e
+          c.serve_next.ensures.stays.trusts inv.served served;
     }

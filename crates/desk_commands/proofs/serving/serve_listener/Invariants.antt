@@ -2,7 +2,7 @@ use Rattle.desk_types.proofs.Common.{◌≡◌, Appends, failures_of, inner_of, 
 use Rattle.desk_commands.proofs.ListsAfter.{Serves}
 use Rattle.desk_commands.specs.Clients.{ends_of, events_in, Exchange, Sees}
 use Rattle.desk_commands.specs.Connections.{is_faulty, lines_from}
-use Rattle.gateway_http.specs.Requests.{request_rule}
+use Rattle.http_stream.specs.Stream.{StaysLent}
 use Rattle.std.specs.Prelude.{flat_map}
 use Rattle.desk_commands.proofs.serving.serve_listener.Given as goal
 
@@ -13,8 +13,7 @@ invariant-loop-k g l = record {
   lines : Appends (g.W.Write.contents (inner_of l.fn.output)) (g.W.Write.contents (inner_of l.output)) (lines_from 1 (ends_of exchanges));
   failures : failures_of l.output ≡ failures_of l.fn.output;
   faulty : l.faulty ≡ list_any is_faulty (ends_of exchanges);
-  ready : g.L.Owner.Ready l.owner;
-  trusts : g.L.Owner.Trusts l.owner → g.L.Owner.Trusts l.fn.owner;
+  stays : StaysLent g.H.Handler.Ready g.H.Handler.Trusts g.H.Handler.held l.fn.handler l.handler;
   seen : Sees g.C.Clients.Saw l.fn.clients l.clients (flat_map events_in exchanges);
-  served : Serves (request_rule g.L.ReportedOwner.reports) g.L.Owner.Stands g.L.Owner.Trusts l.fn.owner exchanges l.owner;
+  served : Serves g.H.Handler.rule g.H.Handler.Stands g.H.Handler.Trusts l.fn.handler exchanges l.handler;
 }

@@ -23,7 +23,7 @@ pub returns-in-Ok-Serve-clause-runs : goal.returns-in-Ok-Serve-clause-runs
 returns-in-Ok-Serve-clause-runs g c =
     let asked = c.in-Ok-Serve in
     let asks : AsksForServing (map string_bytes c.args.words.now) (string_bytes c.in-Ok-Serve.file) c.in-Ok-Serve.port c.in-Ok-Serve.connections c.in-Ok-Serve.greatest = search rules in
-    serves_asked (ways_when_open g.T.Start c.serve_in_file.result.1) (string_bytes asked.file) asked.port asked.connections asked.greatest asks c.serve_in_file.ensures.ends (λ exchanges runs. runs)
+    serves_asked (ways_when_open g.T.Start c.serve_in_file.result.1) (string_bytes asked.file) asked.port asked.connections asked.greatest asks c.serve_in_file.ensures.ends
 
 pub returns-in-Ok-Report-clause-runs : goal.returns-in-Ok-Report-clause-runs
 returns-in-Ok-Report-clause-runs g c =
