@@ -1,0 +1,44 @@
+-- What was read of a file, as its two lists.
+use Rattle.desk_types.proofs.Common.{◌≡◌, ◌⊎◌, Err, IfErr, IfOk, inl, inr, IsSomeAnd, None, Ok, Option, Result, Some}
+use Rattle.desk_types.proofs.Common.{subst}
+use Rattle.feeder_state.specs.State.{Represents}
+use Rattle.feeder_state.specs.declared.desk.StateDesk.{StateDesk}
+use Rattle.line_file.specs.declared.fault.ListFault.{ListFault}
+use Rattle.line_file.specs.declared.store.Line.{Line}
+use Rattle.line_file.specs.Files.{FindsFault, FindsLine}
+use Rattle.desk_file.specs.Unread.{IsJustOpened}
+use Rattle.sqlite.specs.Files.{image_of}
+use Rattle.sqlite_disk.specs.declared.Disk as disk
+use Rattle.sqlite_disk.specs.declared.Files.{Files}
+use Rattle.sqlite_wal.specs.Recovery.{Image}
+use Rattle.line_commands.specs.Reading.{HasFault, HasLine}
+
+-- ---- a result, and the files that were read for it
+
+some-weaker : {F : Type 0} (files : Option F) (P Q : F → Type 0) → ((f : F) → P f → Q f) → IsSomeAnd files P
+    → IsSomeAnd files Q
+some-weaker None P Q to none = none
+some-weaker (Some f) P Q to is = to f is
+
+pub some-of : {A E F : Type 0} (r : Result A E) (files : Option F) (a : A) → r ≡ Ok a → (P : A → F → Type 0)
+    (Q : F → Type 0) → ((f : F) → P a f → Q f) → IfOk r (λ x. IsSomeAnd files (P x)) → IsSomeAnd files Q
+some-of r files a is P Q to has =
+    some-weaker files (P a) Q to (subst (λ (o : Result _ _). IfOk o (λ x. IsSomeAnd files (P x))) is has)
+
+pub err-of : {A E : Type 0} (r : Result A E) (e : E) (P : E → Type 0) → r ≡ Err e → IfErr r P → P e
+err-of r e P is has = subst (λ (o : Result _ _). IfErr o P) is has
+
+pub no-line : {A B : Type 0} (Has Told : A → Type 0) (fault : A) → Has fault → B ⊎ Told fault
+    → B ⊎ ((f : A) × Has f × Told f)
+no-line Has Told fault has (inl none) = inl none
+no-line Has Told fault has (inr told) = inr (fault, has, told)
+
+-- ---- files that were just opened
+
+module _ {F : Type 0} {g : disk.Ghosts F} {image : Image} {first : Files F} (f : Files F)
+    (read : Result (Line StateDesk) ListFault) (fresh : IsJustOpened g image first) where
+  pub line-at : IfOk read (FindsLine Represents g (image_of g first) f) → IfOk read (HasLine g image (Some f))
+  line-at = subst (λ (i : Image). IfOk read (FindsLine Represents g i f)) fresh.held
+
+  pub fault-at : IfErr read (FindsFault g (image_of g first) f) → IfErr read (HasFault g image (Some f))
+  fault-at = subst (λ (i : Image). IfErr read (FindsFault g i f)) fresh.held

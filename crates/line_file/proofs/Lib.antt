@@ -1,0 +1,5 @@
+mod Closing
+mod Found
+mod Kept
+mod Lines
+mod Results

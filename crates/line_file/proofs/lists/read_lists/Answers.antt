@@ -1,0 +1,60 @@
+use Rattle.desk_types.proofs.Common.{[], ◌∙◌, ◌≡◌, ap, false, IfOk-weaker, inl, inr, IsTrue, length, Ok, refl, sym, true}
+use Rattle.line_book_store.specs.Names.{has_book}
+use Rattle.line_schema.specs.Stands.{state_of}
+use Rattle.book_store.proofs.Finding.{alone_there, err_weaker, shelf_there}
+use Rattle.book_store.proofs.InTurn.{store_same}
+use Rattle.line_file.proofs.lists.read_lists.Goals as goal
+
+pub returns-in-Err-clause-err : goal.returns-in-Err-clause-err
+returns-in-Err-clause-err g c L stands sound =
+    inr (inl (sym (c.has_book.ensures.committed L stands sound.1) ∙ c.in-Err.is))
+
+pub returns-in-Err-clause-reads : goal.returns-in-Err-clause-reads
+returns-in-Err-clause-reads g c = store_same g.S.Store g.D.Desk.Stands c.args.store.now
+
+pub returns-then-has-clause-ok : goal.returns-then-has-clause-ok
+returns-then-has-clause-ok g c L stands =
+    let old = state_of g.S.Store c.args.store.now in
+    let named : IsTrue old.is_open → has_book old.committed.schema.tables ≡ Ok true = λ was.
+    sym (c.has_book.ensures.committed L stands was) ∙ c.in-Ok.is ∙ ap Ok c.if-has.true in
+    IfOk-weaker c.restore.result _ _
+    (λ r is. record {
+      rows = is.rows;
+      notes = is.notes;
+      read = is.read;
+      book = λ sound place.
+          let all = is.all sound.0 in
+          let shelf = shelf_there old.committed place (named all.was_open) in
+          inl (all.holds shelf.0 shelf.1);
+      guard = λ sound. is.guard sound.0;
+    })
+    (c.restore.ensures.ok L stands)
+
+pub returns-then-has-clause-err : goal.returns-then-has-clause-err
+returns-then-has-clause-err g c L stands sound =
+    let old = state_of g.S.Store c.args.store.now in
+    let was : IsTrue old.is_open = (c.restore.ensures.reads.reads.kept sound.0).was_open sound.1 in
+    err_weaker c.restore.result _ _
+    (λ fault is. inr (inr (sym (c.has_book.ensures.committed L stands was) ∙ c.in-Ok.is ∙ ap Ok c.if-has.true, is)))
+    (c.restore.ensures.err L stands sound.0)
+
+pub returns-clause-ok : goal.returns-clause-ok
+returns-clause-ok g c L stands =
+    let old = state_of g.S.Store c.args.store.now in
+    IfOk-weaker c.read_history.result _ _
+    (λ r is. record {
+      rows = [];
+      notes = [];
+      read = is.0;
+      book = λ sound place.
+          let was : IsTrue old.is_open = (c.read_history.ensures.reads.reads.kept sound.0).was_open sound.1 in
+          let named : has_book old.committed.schema.tables ≡ Ok false =
+          sym (c.has_book.ensures.committed L stands was) ∙ c.in-Ok.is ∙ ap Ok c.if-has.false in
+          inr (alone_there old.committed place named, refl);
+      guard = is.1;
+    })
+    (c.read_history.ensures.ok L stands)
+
+pub returns-clause-err : goal.returns-clause-err
+returns-clause-err g c L stands sound =
+    err_weaker c.read_history.result _ _ (λ fault is. inl is) c.read_history.ensures.err

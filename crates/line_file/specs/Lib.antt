@@ -1,0 +1,4 @@
+pub mod Fault
+pub mod Files
+pub mod Lines
+pub mod Lists

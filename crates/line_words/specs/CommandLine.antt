@@ -1,0 +1,110 @@
+-- What the words of a command line ask for, by the grammar of `clap`.
+use Rattle.std.specs.Prelude.{◌≡◌, ◌≢◌, ◌⊎◌, ⊤, true, codes, ℕ, List, [], ◌∷◌, Option, Some, None, string_bytes}
+use Rattle.clap.specs.Faults.{fault_of}
+use Rattle.clap.specs.Kinds.{Kinds, IsAmong}
+use Rattle.clap.specs.Simple.{App, Shape, new_app, new_shape, on_top, subcommand_of, with_subcommand}
+use Rattle.clap.specs.Walk.{Row, first_of}
+use Rattle.clap.specs.declared.error.kind.ErrorKind.{ErrorKind}
+use Rattle.desk_types.specs.Id.{IsId, Name}
+use Rattle.desk_words.specs.CommandLine.{IsText, required_option}
+use Rattle.line_words.specs.declared.command_line.LineCommand.{LineCommand}
+use Rattle.line_words.specs.declared.command_line.LineCommand.TheVariants.{State, Audit, Text, Bad}
+
+-- ---- the grammar
+
+-- `state` has a file and a machine, each exactly once.
+abbrev pub state_shape : Shape
+state_shape = record (new_shape (codes "state")) {
+  rules =
+      required_option (codes "db") ∷ required_option (codes "machine") ∷ [];
+}
+
+-- `audit` has a file.
+abbrev pub audit_shape : Shape
+audit_shape =
+    record (new_shape (codes "audit")) { rules = required_option (codes "db") ∷ [] }
+
+-- The program has a version, and requires a command.
+abbrev pub bare : App
+bare = on_top (λ s. record s {
+  no_binary_name = true;
+  disable_help_subcommand = true;
+  subcommand_required = true;
+  has_version = true;
+}) (new_app (codes "tracedesk-line"))
+
+-- The two commands.
+abbrev pub commands : App
+commands = with_subcommand (with_subcommand bare state_shape) audit_shape
+
+-- The text printed if the arguments are no command: help, the version, or a mistake.
+unfoldable pub told_of : List (List ℕ) → Kinds
+told_of words = fault_of commands words
+
+-- The command that the arguments name, and the options that were found.
+unfoldable pub named_by : List (List ℕ) → Option (List ℕ × List Row)
+named_by words = subcommand_of commands words
+
+-- ---- meaning
+
+-- The grammar reads the arguments as this command, with these options.
+abbrev pub Names : List (List ℕ) → List ℕ → List Row → Type 0
+Names words name rows = (told_of words ≡ []) × (named_by words ≡ Some (name, rows))
+
+-- The text of an option is present, and is this name.
+abbrev pub ShowsName : Option (List ℕ) → Name → Type 0
+ShowsName None name = ⊥
+ShowsName (Some text) name = IsId text × (name ≡ text)
+
+-- It is absent, or is no name.
+abbrev pub ShowsNoName : Option (List ℕ) → Type 0
+ShowsNoName None = ⊤
+ShowsNoName (Some text) = IsId text → ⊥
+
+-- The arguments mean: print whether this machine may work, by the lists of this file.
+abbrev pub AsksForState : List (List ℕ) → List ℕ → Name → Type 0
+AsksForState words file machine =
+    (rows : List Row) × Names words (codes "state") rows
+    × (first_of (codes "db") rows ≡ Some file)
+    × ShowsName (first_of (codes "machine") rows) machine
+
+-- The arguments mean: check the lists of this file.
+abbrev pub AsksForAudit : List (List ℕ) → List ℕ → Type 0
+AsksForAudit words file =
+    (rows : List Row) × Names words (codes "audit") rows × (first_of (codes "db") rows ≡ Some file)
+
+-- The arguments ask for help or for the version.
+abbrev pub AsksForText : List (List ℕ) → Type 0
+AsksForText words = (kind : ErrorKind) × IsAmong kind (told_of words) × IsText kind
+
+-- The grammar rejects the arguments.
+abbrev pub IsMistaken : List (List ℕ) → Type 0
+IsMistaken words = (kind : ErrorKind) × IsAmong kind (told_of words) × (IsText kind → ⊥)
+
+-- The grammar accepts the arguments, but a value of the command is not valid.
+abbrev pub HasBadValue : List (List ℕ) → Type 0
+HasBadValue words =
+    (rows : List Row)
+    × ((Names words (codes "state") rows
+    × ((first_of (codes "db") rows ≡ None) ⊎ ShowsNoName (first_of (codes "machine") rows)))
+    ⊎ (Names words (codes "audit") rows × (first_of (codes "db") rows ≡ None)))
+
+-- The command is neither of the two.
+abbrev pub IsNoCommand : Option (List ℕ × List Row) → Type 0
+IsNoCommand None = ⊤
+IsNoCommand (Some named) = (named.0 ≢ codes "state") × (named.0 ≢ codes "audit")
+
+-- The grammar accepts the arguments, but they name neither command.
+abbrev pub NamesNone : List (List ℕ) → Type 0
+NamesNone words = (told_of words ≡ []) × IsNoCommand (named_by words)
+
+-- The arguments have no meaning.
+abbrev pub AsksForNothing : List (List ℕ) → Type 0
+AsksForNothing words = IsMistaken words ⊎ NamesNone words ⊎ HasBadValue words
+
+-- The meaning of the arguments.
+abbrev pub Asks : List (List ℕ) → LineCommand → Type 0
+Asks words (State file machine) = AsksForState words (string_bytes file) machine
+Asks words (Audit file) = AsksForAudit words (string_bytes file)
+Asks words (Text text) = AsksForText words
+Asks words (Bad text) = AsksForNothing words

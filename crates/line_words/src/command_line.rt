@@ -1,0 +1,218 @@
+//! The command line.
+
+ghost use Rattle.std.specs.Prelude.{◌≡◌, false, map, string_bytes, List, [], ℕ, IfOk, IfSome, IsNone, codes};
+ghost use Rattle.clap.specs.Kinds.{HasKind};
+ghost use Rattle.clap.specs.Matches.{found_of};
+ghost use Rattle.clap.specs.Simple.{app_of, shape_of, subcommand_rows_of, with_rule};
+ghost use Rattle.clap.specs.Walk.{first_of, rows_of};
+ghost use Rattle.clap.specs.declared.builder.command.Command.TheViews.{out-Command};
+ghost use Rattle.desk_types.specs.Id.{IsId};
+ghost use Rattle.desk_words.specs.CommandLine.{required_option};
+ghost use Rattle.line_words.specs.CommandLine.{audit_shape, bare, commands, named_by, state_shape, told_of, Asks, Names, ShowsName, ShowsNoName};
+
+use clap::error::ErrorKind;
+use clap::{Arg, ArgMatches};
+use desk_types::Id;
+use std::alloc::{AllocError, Global};
+
+/// The meaning of a command line.
+#[derive(Drop)]
+pub enum LineCommand {
+    /// Print whether a machine may work, and each cause why not.
+    State { file: String, machine: Id },
+    /// Check both lists in a file.
+    Audit { file: String },
+    /// Print this text, help or the version, on standard output.
+    Text(String),
+    /// No meaning. This text, for standard error, says why.
+    Bad(String),
+}
+
+/// The examples and the exit statuses, for the help.
+const NOTES: &str = "\
+Examples:
+  tracedesk-line state --db line.db --machine M1
+  tracedesk-line audit --db line.db
+
+Exit status:
+  0  The state was printed, the audit found nothing wrong, or help or the version was asked for
+  1  No sheet names the machine
+  2  The command line asks for nothing that the program does
+  3  The line's file was refused, or memory was
+  4  Input or output failed";
+
+/// Reads the arguments.
+pub fn read_words(alloc: Global, words: &[String]) -> Result<LineCommand, AllocError>
+    ensures { IfOk result (Asks (map string_bytes words.now)) }
+{
+    let command = commands(alloc)?;
+    match command.try_get_matches_from(words) {
+        Ok(matches) => command_of(alloc, &matches),
+        Err(error) => help_or_mistake(alloc, &error),
+    }
+}
+
+fn help_or_mistake(alloc: Global, error: &clap::Error) -> Result<LineCommand, AllocError>
+    ensures { (words : List (List ℕ)) → HasKind (told_of words) error.now
+        → IfOk result (Asks words) }
+{
+    if error.kind() == ErrorKind::OutOfMemory {
+        return Err(AllocError);
+    }
+    let text = format!(in alloc; "{error}")?;
+    if error.use_stderr() {
+        Ok(LineCommand::Bad(text))
+    } else {
+        Ok(LineCommand::Text(text))
+    }
+}
+
+fn command_of(alloc: Global, matches: &ArgMatches<'_>) -> Result<LineCommand, AllocError>
+    ensures { (words : List (List ℕ)) → told_of words ≡ []
+        → subcommand_rows_of matches.now ≡ named_by words
+        → IfOk result (Asks words) }
+{
+    match matches.subcommand() {
+        Some((name, found)) if name == "state" => state_of(alloc, found),
+        Some((name, found)) if name == "audit" => audit_of(alloc, found),
+        _ => Ok(LineCommand::Bad(no_command(alloc)?)),
+    }
+}
+
+fn state_of(alloc: Global, found: &ArgMatches<'_>) -> Result<LineCommand, AllocError>
+    ensures { (words : List (List ℕ))
+        → Names words (codes "state") (rows_of (found_of found.now))
+        → IfOk result (Asks words) }
+{
+    match (found.get_str("db"), machine_in(found)) {
+        (Some(file), Some(machine)) => Ok(LineCommand::State {
+            file: String::from_str(alloc, file)?,
+            machine,
+        }),
+        _ => Ok(LineCommand::Bad(no_machine(alloc)?)),
+    }
+}
+
+fn audit_of(alloc: Global, found: &ArgMatches<'_>) -> Result<LineCommand, AllocError>
+    ensures { (words : List (List ℕ))
+        → Names words (codes "audit") (rows_of (found_of found.now))
+        → IfOk result (Asks words) }
+{
+    match found.get_str("db") {
+        Some(file) => Ok(LineCommand::Audit {
+            file: String::from_str(alloc, file)?,
+        }),
+        None => Ok(LineCommand::Bad(no_value(alloc)?)),
+    }
+}
+
+/// Returns the machine, if the text of the option is a name.
+fn machine_in(found: &ArgMatches<'_>) -> Option<Id>
+    ensures some { IfSome result
+        (ShowsName (first_of (codes "machine") (rows_of (found_of found.now)))) }
+    ensures none { IsNone result
+        → ShowsNoName (first_of (codes "machine") (rows_of (found_of found.now))) }
+{
+    match found.get_str("machine") {
+        Some(text) => name_of(text),
+        None => None,
+    }
+}
+
+fn name_of(text: &str) -> Option<Id>
+    ensures some { IfSome result (λ name. IsId text.now × (name ≡ text.now)) }
+    ensures none { IsNone result → IsId text.now → ⊥ }
+{
+    Id::read(text.as_bytes())
+}
+
+fn no_command(alloc: Global) -> Result<String, AllocError> {
+    String::from_str(alloc, "error: a command is required\n")
+}
+
+fn no_value(alloc: Global) -> Result<String, AllocError> {
+    String::from_str(alloc, "error: a value is required for '--db <FILE>'\n")
+}
+
+fn no_machine(alloc: Global) -> Result<String, AllocError> {
+    String::from_str(
+        alloc,
+        "error: invalid value for '--machine <NAME>': a name has 1 to 64 printable ASCII characters, and no space at either end\n\nFor more information, try '--help'.\n",
+    )
+}
+
+fn commands<'a>(alloc: Global) -> Result<clap::Command<'a>, AllocError>
+    ensures { IfOk result (λ command. app_of command ≡ commands) }
+{
+    let program = bare(alloc)?;
+    let with_state = program.subcommand(state(alloc)?)?;
+    with_state.subcommand(audit(alloc)?)
+}
+
+fn bare<'a>(alloc: Global) -> Result<clap::Command<'a>, AllocError>
+    ensures { IfOk result (λ command. app_of command ≡ bare) }
+{
+    let program = clap::Command::new(alloc, "tracedesk-line")
+        .about("Say whether a machine of a line may work, by the history and the book of its file")
+        .version("1.0.0")
+        .after_help(NOTES)
+        .bin_name("tracedesk-line")?
+        .no_binary_name(true)
+        .disable_help_subcommand(true)
+        .subcommand_required(true);
+    Ok(program)
+}
+
+fn state<'a>(alloc: Global) -> Result<clap::Command<'a>, AllocError>
+    ensures shape { IfOk result (λ command. shape_of command ≡ state_shape) }
+    ensures local { IfOk result (λ command. (out-Command command).has_globals ≡ false) }
+{
+    let start = clap::Command::new(alloc, "state")
+        .about("Print whether a machine may work, and each cause why not")
+        .after_help(NOTES);
+    let kept = with_wanted(
+        alloc,
+        start,
+        "db",
+        "FILE",
+        "The file of the line, which nobody serves",
+    )?;
+    with_wanted(alloc, kept, "machine", "NAME", "The machine")
+}
+
+fn audit<'a>(alloc: Global) -> Result<clap::Command<'a>, AllocError>
+    ensures shape { IfOk result (λ command. shape_of command ≡ audit_shape) }
+    ensures local { IfOk result (λ command. (out-Command command).has_globals ≡ false) }
+{
+    let start = clap::Command::new(alloc, "audit")
+        .about("Check the history and the book in a file, and count both")
+        .after_help(NOTES);
+    with_wanted(
+        alloc,
+        start,
+        "db",
+        "FILE",
+        "The file of the line, which nobody serves",
+    )
+}
+
+/// The command with one more option, which is required.
+fn with_wanted<'a>(
+    alloc: Global,
+    command: clap::Command<'a>,
+    name: &'a str,
+    value: &'a str,
+    help: &'a str,
+) -> Result<clap::Command<'a>, AllocError>
+    requires local { (out-Command command).has_globals ≡ false }
+    ensures shape { IfOk result
+        (λ new. app_of new ≡ with_rule (app_of command.entry) (required_option name.now)) }
+    ensures local { IfOk result (λ new. (out-Command new).has_globals ≡ false) }
+{
+    let option = Arg::new(alloc, name)
+        .long(name)
+        .value_name(value)
+        .help(help)
+        .required(true);
+    command.arg(option)
+}

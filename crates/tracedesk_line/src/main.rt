@@ -1,0 +1,28 @@
+//! The program that says whether a machine of a line may work, and checks both lists of a line's file.
+#![tactic(auto)]
+
+mod run;
+
+use crate::run::run;
+use desk_commands::{tell_line, unavailable};
+use desk_types::Wire;
+use desk_words::words_behind_name;
+use sqlite::Unknown;
+use std::process::ExitCode;
+
+fn main(rt: HostRuntime) -> ExitCode {
+    let mut errors = Wire::new(rt.stderr());
+    let Ok(given) = std::env::args(&rt) else {
+        tell_line(
+            &mut errors,
+            "tracedesk-line: a word of the command line is not UTF-8",
+        );
+        return ExitCode::from(2u8);
+    };
+    let Ok(words) = words_behind_name(rt.alloc(), given) else {
+        return ExitCode::from(unavailable(&mut errors));
+    };
+    let mut output = Wire::new(rt.stdout());
+    let (status, _files) = run(&rt, words.as_slice(), Unknown, &mut output, &mut errors);
+    ExitCode::from(status)
+}
