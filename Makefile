@@ -63,6 +63,6 @@ bench:         ## what a day costs | 5 min | time
 	@dev/bench/run day
 
 #: package
-dist:          ## Debian's packages in dist: both programs and what a plant installs with them | 1 min | pandoc help2man debhelper dpkg-dev
+dist:          ## Debian's packages in dist: the programs and what a plant installs with them | 1 min | pandoc help2man debhelper dpkg-dev
 	$(say)
 	@dev/dist

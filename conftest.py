@@ -4,7 +4,8 @@
     /usr/bin/tracedesk /usr/bin/python3 -m pytest ops/tests -m gate -n 2
 
 The program under test is that of --program, else PROGRAM in the environment, else the repository's
-own. tracedesk-chain is that of CHAIN in the environment, else the one next to the program.
+own. tracedesk-chain is that of CHAIN in the environment, else the one next to the program. So is
+tracedesk-line, with LINE.
 
 A test has the marker `gate`, unless it has `whole` (it takes minutes), `root` or `browser`; one of
 these may have `gate` too. `needs` names commands of dev/packages.txt: without one of them a test is
@@ -28,6 +29,7 @@ MARKERS = {
 }
 APART = ("whole", "root", "browser")
 NO_CHAIN = "there is no tracedesk-chain next to {}: dev/build --chain, or CHAIN=FILE"
+NO_LINE = "there is no tracedesk-line next to {}: dev/build --line, or LINE=FILE"
 
 
 def pytest_addoption(parser: pytest.Parser) -> None:
@@ -78,6 +80,13 @@ def program() -> pathlib.Path:
 def chain(program: pathlib.Path) -> pathlib.Path:
     """tracedesk-chain."""
     return pathlib.Path(plant.chain_of(str(program)) or pytest.skip(NO_CHAIN.format(program)))
+
+
+@pytest.fixture(scope="session")
+def line_program(program: pathlib.Path) -> pathlib.Path:
+    """tracedesk-line."""
+    found = plant.next_to(str(program), "line")
+    return pathlib.Path(found or pytest.skip(NO_LINE.format(program)))
 
 
 @pytest.fixture(scope="session")

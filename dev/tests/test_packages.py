@@ -15,7 +15,7 @@ import subprocess
 from typing import Any, Iterator
 
 import pytest
-from tracedesk_dev import ROOT
+from tracedesk_dev import ROOT, program
 from tracedesk_ops import plant
 
 pytestmark = [
@@ -111,8 +111,11 @@ def test_each_file_for_a_plant_is_there(packages: Packages) -> None:
     pages = {it.stem for it in (packages.deb / "usr/share/doc").rglob("*.html")}
     assert not pages & set(FOR_CONTRIBUTORS.split("|"))
     assert len(wanted) > 200 and [it for it in wanted if not (packages.deb / it).is_file()] == []
-    chain = plant.chain_of(packages.program)
-    for name, its in (("tracedesk", packages.program), ("tracedesk-chain", str(chain))):
+    programs = {"tracedesk": packages.program}
+    programs |= {
+        f"tracedesk-{it}": str(plant.next_to(packages.program, it)) for it in program.OTHERS
+    }
+    for name, its in programs.items():
         assert (packages.deb / "usr/bin" / name).read_bytes() == pathlib.Path(its).read_bytes()
 
 

@@ -18,8 +18,8 @@ from tracedesk_dev.building import tell
 CRATES = ROOT / "crates"
 CRATE = "tracedesk"
 BUILT = CRATES / CRATE / "out" / CRATE
-# The second program, over the desk files of a line.
-CHAIN = "tracedesk_chain"
+# The other programs, tracedesk-WORD: over the desk files of a line, and over both lists of one.
+OTHERS = {"chain": "tracedesk_chain", "line": "tracedesk_line"}
 NAME = os.path.relpath(os.path.realpath(sys.argv[0]), ROOT)
 NONE = (
     "{}. `make build` proves and builds it, in some 35 minutes on four cores. To prove nothing,"

@@ -12,6 +12,7 @@ pytestmark = [pytest.mark.root, pytest.mark.xdist_group("machine")]
 
 CONNECT = ROOT / "docs/connect.md"
 C_LIBRARY = {"libc.so.6", "libm.so.6", "libgcc_s.so.1", "ld-linux-x86-64.so.2"}
+PROGRAMS = ("tracedesk", "tracedesk-chain", "tracedesk-line")
 KEPT = "/var/lib/tracedesk /var/lib/tracedesk-send /etc/tracedesk-send"
 SUMS = f"find {KEPT} -type f -print0 | sort -z | xargs -0 sha256sum"
 BROUGHT = (
@@ -27,12 +28,12 @@ def test_the_page_prints_what_it_says(installed: Installed, place: str) -> None:
     assert not installed.differences.get(place)
 
 
-def test_both_programs_run_with_the_c_library_alone(
+def test_the_programs_run_with_the_c_library_alone(
     installed: Installed, folder: pathlib.Path
 ) -> None:
     for deb in installed.packages.debs:
         run("dpkg-deb", "--extract", deb, folder / "its")
-    its = [folder / "its/usr/bin" / name for name in ("tracedesk", "tracedesk-chain")]
+    its = [folder / "its/usr/bin" / name for name in PROGRAMS]
     needs = set(re.findall(r"\(NEEDED\).*\[(.*)\]", run("readelf", "--dynamic", *its)))
     assert needs and needs <= C_LIBRARY
     root = folder / "root"
@@ -48,6 +49,7 @@ def test_both_programs_run_with_the_c_library_alone(
     assert run(*inside, "audit", "--db", "/d") == "lawful 5\n"
     shutil.copy(root / "d", root / "same")
     assert run("chroot", root, "/tracedesk-chain", "alike", "/d", "/same") == "alike 1 1\n"
+    assert run("chroot", root, "/tracedesk-line", "audit", "--db", "/d") == "lawful 5 book 0\n"
 
 
 # --- The service

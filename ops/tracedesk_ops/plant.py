@@ -91,13 +91,18 @@ def want_room(folder: str | pathlib.Path, size: float, what: str) -> None:
 
 
 def chain_of(program: str) -> str | None:
-    """tracedesk-chain, or none: CHAIN in the environment, else the one next to this program,
-    installed or built.
+    """tracedesk-chain, or none."""
+    return next_to(program, "chain")
+
+
+def next_to(program: str, word: str) -> str | None:
+    """tracedesk-WORD, or none: that of WORD in the environment, as CHAIN, else the one next to this
+    program, installed or built.
     """
     at = pathlib.Path(shutil.which(program) or program).resolve().parent
-    beside = [f"{at}/tracedesk-chain", f"{at.parent.parent}/tracedesk_chain/out/tracedesk_chain"]
-    named = os.environ.get("CHAIN")
-    return next(filter(None, map(shutil.which, [named] if named else beside)), None)
+    its = [f"{at}/tracedesk-{word}", f"{at.parent.parent}/tracedesk_{word}/out/tracedesk_{word}"]
+    named = os.environ.get(word.upper())
+    return next(filter(None, map(shutil.which, [named] if named else its)), None)
 
 
 class BySignal(Fault):

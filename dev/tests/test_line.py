@@ -1,0 +1,184 @@
+"""tracedesk-line is asked about files that `tracedesk feed` made, without a book and with one: its
+output, its exit statuses, and that it changes no file.
+"""
+import json
+import pathlib
+import sqlite3
+import subprocess
+
+from typing import Mapping, NamedTuple
+
+import pytest
+from tracedesk_ops import stored
+
+SETUP = [
+    "PartDefined P",
+    "SheetDefined PR M 1 1 P 1 R1",
+    "ProductSelected M PR",
+    "ReelReceived K1 P L1 1 100 0",
+]
+LOADED = [*SETUP, "MaterialsLoaded M 1 K1"]
+STARTED = [*LOADED, "WorkStarted M B1"]
+BOOK = """
+    CREATE TABLE book (n INTEGER NOT NULL PRIMARY KEY, after INTEGER NOT NULL, kind TEXT NOT NULL,
+        source TEXT NOT NULL, uid TEXT NOT NULL, machine TEXT NOT NULL, slot TEXT NOT NULL,
+        board TEXT NOT NULL, reel TEXT NOT NULL, word TEXT NOT NULL, of INTEGER NOT NULL,
+        told TEXT NOT NULL) STRICT
+"""
+TOLD = stored.message("u9", "S", 0, "MaterialsLoaded\tM\t1\tK9")
+Cause = Mapping[str, str | int | None]
+OPEN: Cause = {
+    "Cause": "Open",
+    "Entry": 1,
+    "Kind": "handling",
+    "Reel": "K9",
+    "Refusal": "UnknownReel",
+    "Slot": "1",
+}
+EMPTY: Cause = {"Cause": "AtSlot", "Reel": None, "Refusal": "SlotEmpty", "Slot": "1"}
+
+
+def entry(number: int, after: int) -> str:
+    """The refused load of a reel that isn't known, in the book."""
+    says = f"'handling', 'S', 'u9', 'M', '1', '', 'K9', 'UnknownReel', 0, '{TOLD}'"
+    return f"INSERT INTO book VALUES ({number}, {after}, {says})"
+
+
+class Ended(NamedTuple):
+    status: int
+    output: str
+    errors: str
+
+
+class Files:
+    """Desk files in a folder, and the programs."""
+
+    def __init__(self, program: pathlib.Path, line: pathlib.Path, folder: pathlib.Path) -> None:
+        self.program, self.line, self.folder = program, line, folder
+
+    def feed(self, lines: list[str]) -> None:
+        """Makes the file line.db of these commands: stored texts, with spaces for tabs."""
+        messages = [
+            stored.message(f"u{number}", "S", 0, line.replace(" ", "\t")) + "\n"
+            for number, line in enumerate(lines, 1)
+        ]
+        words = [str(self.program), "feed", "--db", str(self.folder / "line.db")]
+        said = "".join(messages)
+        subprocess.run(words, input=said, capture_output=True, text=True, check=True)
+
+    def sql(self, *statements: str) -> None:
+        desk = sqlite3.connect(self.folder / "line.db")
+        with desk:
+            for it in statements:
+                desk.execute(it)
+        desk.close()
+
+    def contents(self) -> dict[str, bytes]:
+        return {file.name: file.read_bytes() for file in self.folder.glob("*.db")}
+
+    def ask(self, *words: str) -> Ended:
+        """A run with these words, which changes no file, and makes none."""
+        before = self.contents()
+        done = subprocess.run([self.line, *words], capture_output=True, text=True, cwd=self.folder)
+        assert self.contents() == before
+        return Ended(done.returncode, done.stdout, done.stderr)
+
+    def audit(self) -> Ended:
+        return self.ask("audit", "--db", "line.db")
+
+    def state(self, machine: str = "M") -> Ended:
+        return self.ask("state", "--db", "line.db", "--machine", machine)
+
+
+@pytest.fixture
+def files(program: pathlib.Path, line_program: pathlib.Path, tmp_path: pathlib.Path) -> Files:
+    return Files(program, line_program, tmp_path)
+
+
+def state_of(number: int, board: str | None, *causes: Cause) -> str:
+    state = {
+        "Answer": "State",
+        "Board": board,
+        "Causes": list(causes),
+        "Machine": "M",
+        "Number": number,
+        "State": "stop" if causes else "go",
+    }
+    return json.dumps(state, separators=(",", ":")) + "\n"
+
+
+@pytest.mark.parametrize(
+    "lines, told",
+    [
+        (STARTED, state_of(6, "B1")),
+        (LOADED, state_of(5, None, {"Cause": "NoWork"})),
+        (SETUP, state_of(4, None, {"Cause": "NoWork"}, EMPTY)),
+        ([*STARTED, "MaterialsUnloaded M 1"], state_of(7, "B1", EMPTY)),
+    ],
+)
+def test_a_file_without_a_book_is_read_as_one_with_an_empty_book(
+    files: Files, lines: list[str], told: str
+) -> None:
+    files.feed(lines)
+    assert files.audit() == (0, f"lawful {len(lines)} book 0\n", "")
+    assert files.state() == (0, told, "")
+
+
+def test_an_open_entry_stops_its_machine(files: Files) -> None:
+    files.feed(STARTED)
+    files.sql(BOOK, entry(1, 6))
+    assert files.audit() == (0, "lawful 6 book 1\n", "")
+    assert files.state() == (0, state_of(6, "B1", OPEN), "")
+    files.feed([*STARTED, "MaterialsUnloaded M 1", "MaterialsLoaded M 1 K1"])
+    assert files.state() == (0, state_of(8, "B1"), "")
+
+
+def test_no_sheet_is_for_a_machine(files: Files) -> None:
+    files.feed(STARTED)
+    assert files.state("M2") == (1, '{"Answer":"NotFound","Kind":"Machine"}\n', "")
+
+
+@pytest.mark.parametrize(
+    "change, fault",
+    [
+        ([BOOK, entry(1, 7)], "WrongEntry 1"),
+        ([BOOK, entry(2, 6)], "WrongEntry 1"),
+        ([BOOK.replace("told TEXT", "said TEXT")], "OtherColumns"),
+        (["CREATE TABLE other (n INTEGER NOT NULL)", BOOK], "OthersFirst"),
+    ],
+)
+def test_a_wrong_book_is_refused_by_name(files: Files, change: list[str], fault: str) -> None:
+    files.feed(STARTED)
+    files.sql(*change)
+    for ended in files.audit(), files.state():
+        assert ended == (3, "", f"tracedesk: book {fault}\n")
+
+
+def test_a_wrong_history_is_refused_by_name(files: Files) -> None:
+    assert files.audit() == (3, "", "tracedesk: NotADesk\n")
+    files.feed(STARTED)
+    files.sql("UPDATE reel SET remaining = 99, scrapped = 1")
+    assert files.audit() == (3, "", "tracedesk: TableDiffers reel\n")
+
+
+@pytest.mark.parametrize(
+    "words",
+    [
+        (),
+        ("serve",),
+        ("state", "--db", "line.db"),
+        ("state", "--db", "line.db", "--machine", " M"),
+        ("audit", "--db", "line.db", "--machine", "M"),
+    ],
+)
+def test_arguments_without_a_meaning(files: Files, words: tuple[str, ...]) -> None:
+    ended = files.ask(*words)
+    assert (ended.status, ended.output) == (2, "") and ended.errors
+
+
+def test_an_output_that_fails(files: Files) -> None:
+    files.feed(STARTED)
+    words = [str(files.line), "audit", "--db", "line.db"]
+    with open("/dev/full", "wb") as full:
+        done = subprocess.run(words, stdout=full, stderr=subprocess.PIPE, cwd=files.folder)
+    assert (done.returncode, done.stderr) == (4, b"tracedesk: Write\n")
