@@ -3,12 +3,12 @@ use Rattle.desk_types.proofs.Common.{[], ⊤, ◌∙◌, ◌≡◌, Bool, codes,
 use Rattle.desk_types.proofs.Common.{Ok, ok_or, Option, refl, Result, Some, true, ℕ}
 use Rattle.cfx_profile.specs.Fault.{◌>>=◌}
 use Rattle.desk_answers.specs.Ledger.{Ledger}
-use Rattle.gateway_http.specs.Asked.{asked_at, asked_of, boards_in, by_method, detail_in, id_in, path_of}
+use Rattle.gateway_http.specs.Asked.{asked_at, asked_of, boards_in, check_method, detail_in, id_in, path_of}
 use Rattle.gateway_http.specs.Asked.{query_of}
 use Rattle.gateway_http.specs.Gateways.{AnswersGet}
 use Rattle.gateway_http.specs.Repeats.{get_of}
 use Rattle.gateway_http.specs.Requests.{asked_outcome, Reports, request_rule}
-use Rattle.gateway_http.specs.Routes.{route_of}
+use Rattle.gateway_http.specs.Routes.{route_method, route_of}
 use Rattle.gateway_http.specs.declared.asked.Asked.{Asked}
 use Rattle.gateway_http.specs.declared.fault.AskFault.{AskFault}
 use Rattle.gateway_http.specs.declared.fault.AskFault.TheVariants.{NoPath}
@@ -37,7 +37,7 @@ after : {X : Type 0} (m : Result X AskFault) (rest : X → Result Asked AskFault
 after (Ok x) rest asks-all = asks-all x
 after (Err fault) rest asks-all = tt
 
-by-route : (route : Route) (query : List ℕ) → Asks (by_method (codes "GET") route >>= (λ allowed. asked_at allowed query))
+by-route : (route : Route) (query : List ℕ) → Asks (check_method (codes "GET") (route_method route) >>= (λ allowed. asked_at route query))
 unfolding asked_at
 by-route Messages query = tt
 by-route ImportSetup query = tt
@@ -49,7 +49,7 @@ by-route Slots query = after (id_in parameter.Machine query) _ (λ machine. tt)
 by-route Kit query = after (id_in parameter.Product query) _ (λ product. after (id_in parameter.Machine query) _ (λ machine. after (boards_in query) _ (λ boards. tt)))
 by-route Overdue query = tt
 
-by-path : (o : Option Route) (query : List ℕ) → Asks (ok_or o NoPath >>= (λ found. by_method (codes "GET") found >>= (λ allowed. asked_at allowed query)))
+by-path : (o : Option Route) (query : List ℕ) → Asks (ok_or o NoPath >>= (λ found. check_method (codes "GET") (route_method found) >>= (λ allowed. asked_at found query)))
 by-path None query = tt
 by-path (Some route) query = by-route route query
 

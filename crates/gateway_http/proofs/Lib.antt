@@ -4,3 +4,4 @@ pub mod Literals
 pub mod NoText
 pub mod OnlyHistories
 pub mod RepeatsLeaveLists
+pub mod StoreReports

@@ -1,5 +1,5 @@
 -- The content of a request, from its method and its target.
-use Rattle.std.specs.Prelude.{ℕ, ◌+◌, ◌==◌, Bool, List, take, drop, Result, Ok, Err, ok_or, if◌then◌else◌}
+use Rattle.std.specs.Prelude.{⊤, ℕ, ◌+◌, ◌==◌, Bool, List, take, drop, Result, Ok, Err, ok_or, if◌then◌else◌}
 use Rattle.std.specs.List.{position_or_len}
 use Rattle.cfx_profile.specs.Fault.{◌>>=◌}
 use Rattle.cfx_profile.specs.Forms.{id_of}
@@ -13,6 +13,7 @@ use Rattle.gateway_http.specs.declared.fault.AskFault.{AskFault}
 use Rattle.gateway_http.specs.declared.fault.AskFault.TheVariants.{NoPath, BadMethod, BadQuery}
 use Rattle.gateway_http.specs.declared.parameter.Parameter.{Parameter}
 use Rattle.gateway_http.specs.declared.parameter.Parameter.TheVariants as parameter
+use Rattle.gateway_http.specs.declared.routes.Method.{Method}
 use Rattle.gateway_http.specs.declared.routes.Route.{Route}
 use Rattle.gateway_http.specs.declared.routes.Route.TheVariants as route
 use Rattle.imports.specs.declared.import.Content.TheVariants.{Sheet, Counts}
@@ -109,14 +110,14 @@ asked_at route.Overdue query = Ok (asks.Report report.OverdueList)
 
 -- ---- a request
 
--- The route, if this is its method.
-abbrev pub by_method : List ℕ → Route → Result Route AskFault
-by_method method route = if same method (method_text (route_method route)) then Ok route
-    else Err (BadMethod (route_method route))
+-- Whether this is the only method that a route allows.
+abbrev pub check_method : List ℕ → Method → Result ⊤ AskFault
+check_method method wanted = if same method (method_text wanted) then Ok tt
+    else Err (BadMethod wanted)
 
 -- The content of a request, or its first fault: of path, method, then parameters.
 unfoldable pub asked_of : List ℕ → List ℕ → Result Asked AskFault
 asked_of method target = do
   found ← ok_or (route_of (path_of target)) NoPath
-  allowed ← by_method method found
-  asked_at allowed (query_of target)
+  allowed ← check_method method (route_method found)
+  asked_at found (query_of target)

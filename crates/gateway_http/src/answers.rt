@@ -11,6 +11,7 @@ use crate::fault::AskFault;
 use crate::message_answers::{answer_fault, answer_import, answer_message, json};
 use crate::reported::ReportedOwner;
 use crate::routes::RouteTable;
+use desk_types::Text;
 use http_stream::{Body, MediaType, Response, Status};
 use line_schema::Unavailable;
 use std::alloc::Global;
@@ -53,13 +54,25 @@ pub fn answer_report<L: ReportedOwner>(
     ensures told { Meets L.Stands L.Trusts owner.old owner.new result
         (λ G. outcome_leaving G (report_told report (L.reports report G.history))) }
 {
-    match owner.report(alloc, report)? {
+    let found = owner.report(alloc, report)?;
+    Ok(report_response(alloc, report, found)?)
+}
+
+/// Returns the answer with a report, or that its subject isn't found.
+pub fn report_response(
+    alloc: Global,
+    report: Report,
+    found: Option<Text>,
+) -> Result<Response, Unavailable>
+    ensures { IfOk result (λ response. response_told response ≡ report_told report found) }
+{
+    match found {
         Some(text) => Ok(Response {
             status: Status::Ok,
             kind: MediaType::Csv,
             body: Body::Made(text),
         }),
-        None => Ok(answer_none(alloc, kind_of(report))?),
+        None => answer_none(alloc, kind_of(report)),
     }
 }
 

@@ -4,13 +4,13 @@ ghost use Rattle.std.specs.Prelude.{◌≡◌, ◌≢◌, Ok, Err, IfOk, IfErr};
 ghost use Rattle.std.specs.Cow.{cow_str_bytes};
 ghost use Rattle.std.specs.List.{position};
 ghost use Rattle.cfx_profile.specs.Forms.{id_of};
-ghost use Rattle.gateway_http.specs.Asked.{is_mark, path_of, query_of, parameter_value, id_in, minute_in, detail_in, boards_in, import_in, asked_at, by_method, asked_of};
+ghost use Rattle.gateway_http.specs.Asked.{is_mark, path_of, query_of, parameter_value, id_in, minute_in, detail_in, boards_in, import_in, asked_at, check_method, asked_of};
 ghost use Rattle.gateway_http.specs.Fault.{IsAsked};
 
 use crate::fault::AskFault;
 use crate::parameter::Parameter;
 use crate::query::value_of;
-use crate::routes::{Route, RouteTable};
+use crate::routes::{Method, Route, RouteTable};
 use crate::values::{boards_of, detail_of};
 use cfx_profile::read_minute;
 use desk_types::{Boards, Id, Minute, TraceDetail};
@@ -75,7 +75,7 @@ impl RouteTable {
     {
         let (path, query) = cut_target(target);
         let route = self.route_of(path).ok_or(AskFault::NoPath)?;
-        let route = by_method(route, method)?;
+        check_method(method, route.method())?;
         read_parameters(alloc, route, query)
     }
 }
@@ -97,12 +97,12 @@ fn first_mark(target: &[u8]) -> Option<usize>
     target.iter().position(|byte| *byte == b'?')
 }
 
-fn by_method(route: Route, method: &[u8]) -> Result<Route, AskFault>
-    ensures { result ≡ by_method method.now route }
+/// Checks the method of a request to a route that allows only this one.
+pub fn check_method(method: &[u8], wanted: Method) -> Result<(), AskFault>
+    ensures { result ≡ check_method method.now wanted }
 {
-    let wanted = route.method();
     if method == wanted.as_str().as_bytes() {
-        Ok(route)
+        Ok(())
     } else {
         Err(AskFault::BadMethod(wanted))
     }
@@ -173,8 +173,9 @@ fn import_in(alloc: Global, query: &[u8]) -> Result<Import, AskFault>
     })
 }
 
+/// Returns the name in a query's parameter, which must occur exactly once.
 #[tactic(auto, unfolding(crate::specs::Asked::id_in))]
-fn id_in(alloc: Global, query: &[u8], parameter: Parameter) -> Result<Id, AskFault>
+pub fn id_in(alloc: Global, query: &[u8], parameter: Parameter) -> Result<Id, AskFault>
     ensures { IsAsked (id_in parameter query.now) result }
 {
     let text = parameter_value(alloc, query, parameter)?;

@@ -85,7 +85,8 @@ impl<'a, L: ReportedOwner> Gateway<'a, L> {
     }
 }
 
-fn make_missing(alloc: Global, routes: &mut Option<RouteTable>)
+/// Makes the routes if they are missing and there is memory for them.
+pub fn make_missing(alloc: Global, routes: &mut Option<RouteTable>)
     ensures { is_some routes.old ≡ true → routes.new ≡ routes.old }
 {
     if routes.is_none() {

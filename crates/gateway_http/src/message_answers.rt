@@ -49,7 +49,7 @@ pub fn answer_message<L: Owner>(
     ensures told { Meets L.Stands L.Trusts owner.old owner.new result
         (λ G. message_outcome G body.now) }
 {
-    Ok(told(desk_feed::answer_message(alloc, owner, body)?))
+    Ok(answer_response(desk_feed::answer_message(alloc, owner, body)?))
 }
 
 /// Answers the file of an import.
@@ -65,10 +65,11 @@ pub fn answer_import<L: Owner>(
     ensures told { Meets L.Stands L.Trusts owner.old owner.new result
         (λ G. import_outcome G (command_said import.now body.now)) }
 {
-    Ok(told(desk_feed::answer_import(alloc, owner, import, body)?))
+    Ok(answer_response(desk_feed::answer_import(alloc, owner, import, body)?))
 }
 
-fn told(answer: AnswerText) -> Response
+/// Returns the answer to a message or a file, with the status of its verdict.
+pub fn answer_response(answer: AnswerText) -> Response
     ensures { response_told result ≡ told answer }
 {
     json(verdict_status(answer.verdict), answer.text)
