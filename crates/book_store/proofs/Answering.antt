@@ -1,17 +1,18 @@
 -- What both lists keep of a message that is answered.
-use Rattle.desk_types.proofs.Common.{[], ◌++◌, ◌<◌, ◌||◌, ◌∙◌, ◌∷◌, ◌≡◌, ◌≢◌, accept, after_command, ap, append-nil}
+use Rattle.desk_types.proofs.Common.{[], ◌++◌, ◌<◌, ◌||◌, ◌∙◌, ◌∷◌, ◌≡◌, accept, after_command, ap, append-nil}
 use Rattle.desk_types.proofs.Common.{arith, Bool, Err, false, if◌then◌else◌, is_some, length, List, MatchBool, nat_tests}
 use Rattle.desk_types.proofs.Common.{None, Ok, Option, refl, reply_to, Result, Some, subst, sym, true, unwrap_or, ℕ}
 use Rattle.desk_types.specs.declared.change.Change.{Change}
-use Rattle.desk_types.specs.{History.History}
+use Rattle.desk_types.specs.declared.answer.Reply.TheVariants as reply
+use Rattle.desk_types.specs.{Desk.IsChange, History.History}
 use Rattle.desk_laws.proofs.Common.{Stamped, Two}
 use Rattle.desk_answers.specs.Commands.{command_after, command_answer, earlier_answer, is_full, judged_answer}
 use Rattle.desk_answers.specs.declared.answer.Answer.{Answer}
 use Rattle.desk_answers.specs.declared.answer.Answer.TheVariants.{Accepted, DeskFull}
 use Rattle.cfx_profile.specs.declared.fault.MessageFault.{MessageFault}
-use Rattle.cfx_profile.specs.declared.fault.MessageFault.TheVariants.{NoMemory}
-use Rattle.cfx_profile.specs.declared.message.Said.TheVariants as said
-use Rattle.cfx_profile.specs.Message.{said_in}
+use Rattle.cfx_profile.specs.declared.message.Said.{Said}
+use Rattle.cfx_profile.specs.declared.message.Said.TheVariants.{Asked, Ignored}
+use Rattle.desk_feed.specs.declared.message.AnswerText.{AnswerText}
 use Rattle.line_book.specs.declared.note.Note.{Note}
 use Rattle.line_book.specs.declared.reading.Reading.{Reading}
 use Rattle.line_book.specs.Undecided.{is_known}
@@ -20,48 +21,37 @@ use Rattle.line_entries.specs.declared.row.Sender.{Sender}
 use Rattle.line_schema.proofs.StandsAfter.{accepted_to, answered_as}
 use Rattle.line_schema.specs.{Stands.Kept, Verdict.IsAccepted}
 use Rattle.line_schema.specs.declared.unavailable.Unavailable.{Unavailable as Fault}
-use Rattle.book_store.proofs.Hearing.{fault_heard}
 use Rattle.book_store.specs.Accepted.{KeepsCommand, with_both}
-use Rattle.book_store.specs.Answered.{Answers, AnswersCommand, with_history}
-use Rattle.book_store.specs.Heard.{AddsEntry, HearsFault, KeepsAny, refusal_entry, sender_of}
+use Rattle.book_store.specs.Answered.{AnswersCommand, AnswersSaid, command_told, fault_told, ignored_told, KeepsRefusal}
+use Rattle.book_store.specs.Answered.{with_history}
 use Rattle.book_store.specs.Lists.{Lists}
-use Rattle.book_store.specs.declared.store.hearing.Heard.{Heard}
-use Rattle.book_store.specs.declared.store.hearing.Heard.TheVariants as heard
-
--- ---- a message
-
-pub command_answered : (L : Lists) (told : List ℕ) (s : Stamped) (came : Heard) (M : Lists) → said_in told ≡ Ok
-    (said.Asked s) → AnswersCommand L told s came M → Answers L told came M
-command_answered L told s (heard.Answered t answer) M is answers = (s, is, answers)
-command_answered L told s (heard.Accepts change) M is answers = absurd answers
-command_answered L told s (heard.Ignored name) M is answers = absurd answers
-command_answered L told s (heard.Faulty fault) M is answers = absurd answers
-
-pub fault_answered : (L : Lists) (told : List ℕ) (fault : MessageFault) (came : Heard) (M : Lists) →
-    (fault ≢ NoMemory → said_in told ≡ Err fault) → HearsFault L told fault came M → Answers L told came M
-fault_answered L told fault (heard.Faulty f) M is hears = fault_heard L told fault (heard.Faulty f) M is hears
-fault_answered L told fault (heard.Answered t answer) M is hears = absurd hears
-fault_answered L told fault (heard.Accepts change) M is hears = absurd hears
-fault_answered L told fault (heard.Ignored name) M is hears = absurd hears
+use Rattle.book_store.specs.Noted.{AddsEntry, fault_entry, KeepsAny, nobody, refusal_entry, sender_of}
 
 -- ---- a command that isn't accepted
 
 module _ (L : Lists) (sender : Sender) (told : List ℕ) (N : Lists) where
   kept_of : (n : Note) (known : Bool) → MatchBool known (N ≡ L) (AddsEntry L n sender told N) → N.kept ≡ L.kept
   kept_of n true keeps = ap (λ (M : Lists). M.kept) keeps
-  kept_of n false keeps = ap (λ (M : Lists). M.kept) keeps.3
+  kept_of n false keeps = ap (λ (M : Lists). M.kept) keeps.2
 
   keeps_history : (o : Option Note) → KeepsAny L o sender told N → N.kept ≡ L.kept
   keeps_history None keeps = ap (λ (M : Lists). M.kept) keeps
   keeps_history (Some n) keeps = kept_of n (is_known L.kept.history L.notes n) keeps
 
 -- The history stays.
-pub same_history : (L : Lists) (s : Stamped) (answer : Answer) (told : List ℕ) (N : Lists) (H : History)
-    → KeepsAny L (refusal_entry L s answer) (sender_of s) told N → H ≡ L.kept.history → N ≡ with_history N H
-same_history L s answer told N H keeps is =
-    let kept : N.kept ≡ L.kept = keeps_history L (sender_of s) told N (refusal_entry L s answer) keeps in
+same_history : (L : Lists) (sender : Sender) (told : List ℕ) (N : Lists) (H : History) (o : Option Note)
+    → KeepsAny L o sender told N → H ≡ L.kept.history → N ≡ with_history N H
+same_history L sender told N H o keeps is =
+    let kept : N.kept ≡ L.kept = keeps_history L sender told N o keeps in
     let same : N.kept.history ≡ H = ap (λ (K : Kept). K.history) kept ∙ sym is in
     ap (with_history N) same
+
+-- A command without a message.
+pub still_answered : (L : Lists) (s : Stamped) (answer : Answer) (text : AnswerText)
+    → answer ≡ command_answer Two L.kept.greatest L.kept.history s
+    → command_after Two L.kept.greatest L.kept.history s ≡ L.kept.history → text ≡ command_told s answer
+    → AnswersCommand L s text L
+still_answered L s answer text is stays told = (told ∙ ap (command_told s) is, ap (with_history L) (sym stays))
 
 -- ---- a command that is accepted
 
@@ -84,6 +74,19 @@ module _ (L : Kept) (s : Stamped) (none : earlier_answer L.history s ≡ None)
   new_after = ap (λ (o : Option Answer). after_with L s o (is_full L.greatest L.history)) none
       ∙ ap (after_with L s None) not_full
 
+  module _ (change : Change) (is : IsChange Two L.history s change) where
+    change_answer : command_answer Two L.greatest L.history s
+        ≡ judged_answer L.history change.stamped (reply.Accepted change.detail)
+    change_answer =
+        let answer = judged_answer L.history change.stamped (reply.Accepted change.detail) in
+        let r : Result Answer Fault = Ok answer in
+        new_answer ∙ sym (answered_as L.history s change r is refl)
+
+pub accepted_is : (L : Kept) (s : Stamped) (change : Change) → IsAccepted L s change
+    → command_answer Two L.greatest L.history s
+    ≡ judged_answer L.history change.stamped (reply.Accepted change.detail)
+accepted_is L s change is = change_answer L s is.first is.room change is.is
+
 none_read : (before after : Reading) (notes : List Note) → AreRead before [] notes after → notes ≡ []
 none_read before after [] are = refl
 none_read before after (n ∷ notes) are = absurd are
@@ -97,28 +100,79 @@ both_alone L s notes is =
     let kept : Kept = record L.kept { history = accept L.kept.history s } in
     λ i. record { kept = kept; rows = rows i; notes = same i }
 
-no_entry : (L : Lists) (s : Stamped) (answer : Answer) (number : ℕ) (text told : List ℕ) → answer ≡ Accepted number text
-    → KeepsAny L (refusal_entry L s answer) (sender_of s) told L
-no_entry L s answer number text told is = subst (λ (a : Answer). KeepsAny L (refusal_entry L s a) (sender_of s) told L)
-    (sym is) refl
-
-pub accepted_answered : (L : Lists) (told : List ℕ) (s : Stamped) (change : Change) (before : Reading)
-    (t : Stamped × Answer) (M : Lists) → IsAccepted L.kept s change → KeepsCommand L before change [] t M
-    → AnswersCommand L told s (heard.Answered t.0 t.1) M
-accepted_answered L told s change before t M is accepts =
+pub command_accepted : (L : Lists) (s : Stamped) (change : Change) (before : Reading) (answer : Answer) (M : Lists)
+    → IsAccepted L.kept s change → KeepsCommand L before change [] answer M
+    → AnswersCommand L s (command_told s answer) M
+command_accepted L s change before answer M is accepts =
     let H = L.kept.history in
-    let r : Result Answer Fault = Ok t.1 in
-    let asked : change.stamped ≡ s = ap (λ (c : Change). c.stamped) is.is.value in
-    let answer : t.1 ≡ judged_answer H s (reply_to Two H s) = answered_as H s change r is.is accepts.answer in
+    let r : Result Answer Fault = Ok answer in
     let after : accept H change.stamped ≡ after_command Two H s = accepted_to (λ (G : History). accept H change.stamped
     ≡ G) r H s change is.is refl in
     let history : accept H change.stamped ≡ command_after Two L.kept.greatest H s = after
     ∙ sym (new_after L.kept s is.first is.room) in (
-      accepts.command ∙ asked,
-      answer ∙ sym (new_answer L.kept s is.first is.room),
-      L,
-      no_entry L s t.1 _ _ told accepts.answer,
+      ap (command_told s) (accepts.answer ∙ sym (accepted_is L.kept s change is)),
       accepts.lists
           ∙ both_alone L change.stamped accepts.notes (none_read before accepts.after accepts.notes accepts.are.read)
           ∙ ap (with_history L) history,
     )
+
+-- ---- a message
+
+-- A refused command.
+pub refusal_answered : (L : Lists) (told : List ℕ) (s : Stamped) (answer : Answer) (text : AnswerText) (N : Lists)
+    → answer ≡ command_answer Two L.kept.greatest L.kept.history s
+    → command_after Two L.kept.greatest L.kept.history s ≡ L.kept.history → KeepsRefusal L told s answer text N
+    → AnswersSaid L told (Ok (Asked s)) text N
+refusal_answered L told s answer text N is stays keeps =
+    let entry = subst (λ (a : Answer). KeepsAny L (refusal_entry L s a) (sender_of s) told N) is keeps.1 in (
+      keeps.0 ∙ ap (command_told s) is,
+      N,
+      entry,
+      same_history L (sender_of s) told N (command_after Two L.kept.greatest L.kept.history s)
+          (refusal_entry L s answer) keeps.1 stays,
+    )
+
+-- A faulty message.
+pub fault_answered : (L : Lists) (told : List ℕ) (fault : MessageFault) (text : AnswerText) (N : Lists)
+    → text ≡ fault_told fault → KeepsAny L (fault_entry L told fault) nobody told N
+    → AnswersSaid L told (Err fault) text N
+fault_answered L told fault text N is keeps = (
+  is,
+  N,
+  keeps,
+  same_history L nobody told N L.kept.history (fault_entry L told fault) keeps refl,
+)
+
+-- An accepted command.
+pub asked_accepted : (L : Lists) (told : List ℕ) (s : Stamped) (change : Change) (text : AnswerText) (M : Lists)
+    → IsAccepted L.kept s change → AnswersCommand L s text M → AnswersSaid L told (Ok (Asked s)) text M
+asked_accepted L told s change text M is answers = (
+  answers.0,
+  L,
+  subst (λ (a : Answer). KeepsAny L (refusal_entry L s a) (sender_of s) told L)
+      (sym (accepted_is L.kept s change is)) refl,
+  answers.1,
+)
+
+-- The entry that was made is kept.
+pub refusal_kept : (L : Lists) (told : List ℕ) (s : Stamped) (answer : Answer) (entry : Option Note) (N : Lists)
+    → entry ≡ refusal_entry L s answer → KeepsAny L entry (sender_of s) told N
+    → KeepsRefusal L told s answer (command_told s answer) N
+refusal_kept L told s answer entry N is keeps =
+    (refl, subst (λ (o : Option Note). KeepsAny L o (sender_of s) told N) is keeps)
+
+pub fault_kept : (L : Lists) (told : List ℕ) (fault : MessageFault) (entry : Option Note) (text : AnswerText)
+    (N : Lists) → entry ≡ fault_entry L told fault → text ≡ fault_told fault → KeepsAny L entry nobody told N
+    → AnswersSaid L told (Err fault) text N
+fault_kept L told fault entry text N is same keeps = fault_answered L told fault text N same
+    (subst (λ (o : Option Note). KeepsAny L o nobody told N) is keeps)
+
+pub ignored_answered : (L : Lists) (told name : List ℕ) (text : AnswerText) → text ≡ ignored_told name
+    → AnswersSaid L told (Ok (Ignored name)) text L
+ignored_answered L told name text is = (is, L, refl, refl)
+
+-- The answer to its content is that to the message.
+pub said_answered : (L : Lists) (told : List ℕ) (said other : Result Said MessageFault) (text : AnswerText) (M : Lists)
+    → said ≡ other → AnswersSaid L told other text M → AnswersSaid L told said text M
+said_answered L told said other text M is answers = subst
+    (λ (r : Result Said MessageFault). AnswersSaid L told r text M) (sym is) answers

@@ -55,9 +55,17 @@ module _ {S D : Type 0} (g : Ghosts S) (F : D → Basis → Type 0) (old new : B
     ];
   }
 
+  pub ends_same : {A E : Type 0} (r s : Result A E) → r ≡ s → (Are : A → Lists → Type 0)
+      → Ends g F old new L s Are → Ends g F old new L r Are
+  ends_same {A} {E} r s is Are ends = subst (λ (r : Result A E). Ends g F old new L r Are) (sym is) ends
+
   pub ends_told : {A E : Type 0} (r : Result A E) (e : E) → r ≡ Err e → (Are : A → Lists → Type 0)
       → Ends g F old new L (Err e) Are → Ends g F old new L r Are
-  ends_told {A} {E} r e is Are ends = subst (λ (r : Result A E). Ends g F old new L r Are) (sym is) ends
+  ends_told r e is Are ends = ends_same r (Err e) is Are ends
+
+  pub failed_by : {A E : Type 0} (r : Result A E) (e : E) → r ≡ Err e → (Are : A → Lists → Type 0) → LeavesNothing
+      → StandsFor g F new L → Ends g F old new L r Are
+  failed_by r e is Are nothing stands = ends_told r e is Are (ends_failed e Are nothing stands)
 
 -- After a call that wrote nothing.
 module _ {S D : Type 0} (g : Ghosts S) (F : D → Basis → Type 0) (old mid new : BookStore S D) (L : Lists)

@@ -2,13 +2,12 @@ pub mod Accepting
 pub mod Answering
 pub mod Cleaning
 pub mod Ending
+pub mod Entering
 pub mod Finding
-pub mod Hearing
 pub mod InTurn
 pub mod Loading
 pub mod Noting
 pub mod Opening
 pub mod Places
-pub mod Saying
 pub mod Until
 pub mod WholeBook

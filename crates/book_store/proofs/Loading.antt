@@ -1,13 +1,14 @@
 -- Both lists, over a call that may load the desk.
-use Rattle.desk_types.proofs.Common.{◌≡◌, arith, Basis, IfSome, inl, inr, Option, Some, subst, sym}
-use Rattle.line_book.specs.declared.guard.Guard.{Guard}
+use Rattle.desk_types.proofs.Common.{◌≡◌, arith, Basis, Err, IfSome, inl, inr, IsTrue, Ok, Option, Result, Some, subst, sym}
 use Rattle.line_book_store.specs.Book.{HoldsBook}
 use Rattle.line_schema.proofs.Verdicts.{keeps_of}
 use Rattle.line_schema.specs.{Frames.LetsOthersBe, Frames.MakesDesk, Frames.ReadsStore, Stands.state_of}
 use Rattle.line_schema.specs.{declared.store.LineStore.LineStore}
 use Rattle.line_schema.specs.Verdict.{KeepsBoth}
 use Rattle.line_tables.proofs.Common.{Database, Ghosts, HasCleanDisk, State, Survives, Trees}
-use Rattle.book_store.specs.Lists.{ForLists, StandsFor}
+use Rattle.book_store.proofs.Ending.{ends_after, ends_still, failed_by}
+use Rattle.book_store.specs.Ended.{Ends}
+use Rattle.book_store.specs.Lists.{book_state, ForLists, Lists, StandsFor}
 use Rattle.book_store.specs.declared.store.BookStore.{BookStore}
 
 module _ {S D : Type 0} (g : Ghosts S) (F : D → Basis → Type 0) (old : BookStore S D) (new : LineStore S D)
@@ -20,8 +21,8 @@ module _ {S D : Type 0} (g : Ghosts S) (F : D → Basis → Type 0) (old : BookS
     guard = was.guard;
   }
 
-pub guard_there : (o : Option Guard) (guard : Guard) (P : Guard → Type 0) → o ≡ Some guard → IfSome o P → P guard
-guard_there o guard P is holds = subst (λ (o : Option Guard). IfSome o P) is holds
+pub some_there : {A : Type 0} (o : Option A) (a : A) (P : A → Type 0) → o ≡ Some a → IfSome o P → P a
+some_there {A} o a P is holds = subst (λ (o : Option A). IfSome o P) is holds
 
 -- Judging a command changes neither list.
 pub lists_judged : {S D : Type 0} (g : Ghosts S) (F : D → Basis → Type 0) (old : BookStore S D)
@@ -54,3 +55,25 @@ lists_read g F old new reads L was clean own = record {
   read = was.read;
   guard = was.guard;
 }
+
+-- ---- after a call that changed neither list
+
+module _ {S D : Type 0} (g : Ghosts S) (F : D → Basis → Type 0) (old mid : BookStore S D)
+    (stands : ForLists g F old mid (StandsFor g F mid))
+    (survives : Survives (book_state g old) (book_state g mid) (λ _. ⊥)) (L : Lists) (was : StandsFor g F old L)
+    (clean : HasCleanDisk (book_state g mid)) (own : IsTrue L.kept.own) where
+  pub ends_later : {A E : Type 0} (new : BookStore S D) (r : Result A E) (Are : A → Lists → Type 0)
+      → (StandsFor g F mid L → Ends g F mid new L r Are) → Ends g F old new L r Are
+  ends_later new r Are ends = ends_after g F old mid new L
+      (nothing_left (book_state g old) (book_state g mid) survives clean) r Are (ends (stands L was clean own))
+
+  pub still_later : {A E : Type 0} (a : A) (Are : A → Lists → Type 0) → (StandsFor g F mid L → Are a L)
+      → Ends {E = E} g F old mid L (Ok a) Are
+  still_later a Are are = ends_still g F old mid L a Are
+      (nothing_left (book_state g old) (book_state g mid) survives clean) (stands L was clean own)
+      (are (stands L was clean own))
+
+  pub failed_later : {A E : Type 0} (r : Result A E) (e : E) → r ≡ Err e → (Are : A → Lists → Type 0)
+      → Ends g F old mid L r Are
+  failed_later r e is Are = failed_by g F old mid L r e is Are
+      (nothing_left (book_state g old) (book_state g mid) survives clean) (stands L was clean own)

@@ -1,39 +1,25 @@
 -- Rows that are read as entries, while both lists grow.
-use Rattle.desk_types.proofs.Common.{[], ◌++◌, ◌+◌, ◌∙◌, ◌∷◌, ◌≡◌, ◌≤◌, ap, arith, Err, History, length, List}
-use Rattle.desk_types.proofs.Common.{nat_le, nat_tests}
-use Rattle.desk_types.proofs.Common.{None, Ok, ok_or, Option, refl, Result, Some, string_bytes, true, ℕ}
-use Rattle.cfx_profile.specs.Fault.{◌>>=◌}
+use Rattle.desk_types.proofs.Common.{[], ◌++◌, ◌+◌, ◌∙◌, ◌∷◌, ◌≡◌, ◌≤◌, ap, arith, Bool, false, History, length, List}
+use Rattle.desk_types.proofs.Common.{MatchBool, nat_le, nat_tests, None, Ok, Option, refl, Some, subst, sym, true, ℕ}
 use Rattle.line_book.proofs.RowsRead.{follows-read}
 use Rattle.line_book.specs.declared.kind.Names.{Names}
 use Rattle.line_book.specs.declared.note.Matter.{Matter}
+use Rattle.line_book.specs.declared.note.Matter.TheVariants.{Attribute, Begun, Boundary, Decision, Differs, Handling}
+use Rattle.line_book.specs.declared.note.Matter.TheVariants.{Hold, Made, Release, Restored, Stray, Uncompared, Unread, Work}
 use Rattle.line_book.specs.declared.note.Note.{Note}
 use Rattle.line_book.specs.declared.reading.Reading.{Reading}
-use Rattle.line_book.specs.declared.reading.RowFault.{RowFault}
-use Rattle.line_book.specs.declared.reading.RowFault.TheVariants.{WrongTold}
 use Rattle.line_book.specs.declared.row.BookRow.{BookRow}
-use Rattle.line_book.specs.{Guard.IsNextNote}
-use Rattle.line_book.specs.Rows.{entry_in, first_reading, matter_in, note_of, read_on, text_of}
-use Rattle.line_book_store.proofs.ReadEntries.{read-count, read-follows, read-more}
+use Rattle.line_book.specs.{Guard.IsNextNote, Undecided.is_known}
+use Rattle.line_book.specs.Rows.{entry_in, first_reading, HasNames, matter_in, read_on}
+use Rattle.line_book_store.proofs.ReadEntries.{read-count, read-follows, read-more, said}
 use Rattle.line_book_store.specs.Checking.{AreRead, IsRead}
+use Rattle.line_entries.specs.declared.row.Sender.{Sender}
+use Rattle.line_entries.specs.Rows.{IsNext, IsRowOf, IsToldBy, may_carry}
+use Rattle.book_store.specs.Ended.{with_note}
+use Rattle.book_store.specs.Lists.{Lists}
+use Rattle.book_store.specs.Noted.{AddsEntry, IsNextEntry, Keeps, KeepsAny}
 
 -- ---- one row
-
-module _ (b : Reading) (row : BookRow) where
-  told-with : (n : Note) (o : Option (List ℕ)) (out : List ℕ → Note) → (ok_or o WrongTold >>= λ t. Ok (out t)) ≡ Ok
-      n → (t : List ℕ) × (n ≡ out t)
-  told-with n None out is = cc
-  told-with n (Some t) out is = (t, cc)
-
-  said-with : (r : Result Matter RowFault) (text : Matter → Option (List ℕ)) (out : Matter → List ℕ → Note) (n : Note)
-      → (r >>= λ m. ok_or (text m) WrongTold >>= λ t. Ok (out m t)) ≡ Ok n → (m : Matter) × (t : List ℕ) ×
-      (r ≡ Ok m) × (n ≡ out m t)
-  said-with (Err f) text out n is = cc
-  said-with (Ok m) text out n is = let it = told-with n (text m) (out m) is in (m, it.0, refl, it.1)
-
-  said : (named : Option Names) (n : Note) → entry_in b row named ≡ Ok n →
-      (m : Matter) × (t : List ℕ) × (matter_in b row named ≡ Ok m) × (n ≡ note_of row m t)
-  unfolding entry_in
-  said named n is = said-with (matter_in b row named) (λ m. text_of m (string_bytes row.told)) (note_of row) n is
 
 -- The row's number is the next one, and its place is within the history.
 pub row_follows : (b : Reading) (row : BookRow) (n : Note) → IsRead b row n → (row.number ≡ b.entries + 1) ×
@@ -106,3 +92,70 @@ module _ (commands : ℕ) (rows : List BookRow) (notes : List Note) (b : Reading
         place = placed;
         earlier = λ about is. (follows.earlier about is).1;
       }
+
+-- ---- an entry that was made
+
+none_carried : (begun : Bool) (m : Matter) → may_carry begun 0 m ≡ true
+none_carried begun (Handling machine slot reel word) = refl
+none_carried begun (Stray machine slot reel word) = refl
+none_carried begun (Work machine slot board word) = refl
+none_carried begun (Unread word) = refl
+none_carried begun (Differs machine slot board reel desk_reel) = refl
+none_carried begun (Boundary machine slot board reel desk_reel) = refl
+none_carried begun (Uncompared machine board) = refl
+none_carried begun (Attribute reel name) = refl
+none_carried begun (Decision about) = refl
+none_carried begun (Hold stock) = refl
+none_carried begun (Release stock) = refl
+none_carried begun Made = refl
+none_carried begun Begun = refl
+none_carried begun Restored = refl
+
+module _ (L : Lists) (b : Reading) (read : AreRead (first_reading (length L.kept.history)) L.rows L.notes b)
+    (told : List ℕ) (n : Note) (next : IsNextEntry L told n) where
+  -- It is the next entry, if some entry was read from its row.
+  is_next : (row : BookRow) (x : Note) → IsRead b row x → row.after ≡ n.after → IsNext b n
+  is_next row x is placed =
+      let it = said b row is.0 x is.2 in
+      let follows = follows-read b row is.0 it.0 it.1 it.2 in
+      let number : n.number ≡ length L.notes + 1 = ap (λ (n : Note). n.number) next.placed in
+      let carries : n.carries ≡ 0 = ap (λ (n : Note). n.carries) next.placed in
+      let entries : b.entries ≡ length L.notes = notes_are _ L.rows L.notes b read in
+      let before : b.after ≤ row.after = follows.rises in
+      let ends : row.after ≤ b.commands = follows.within in
+      record {
+        follows = record {
+          number = omega (arith, number, entries);
+          rises = omega (arith, before, placed);
+          within = omega (arith, ends, placed);
+          earlier = next.earlier;
+        };
+        carries = ap (λ k. may_carry b.begun k n.matter) carries ∙ none_carried b.begun n.matter;
+      }
+
+  -- What is read from its row is this entry.
+  pub adds_entry : (sender : Sender) (row : BookRow) → IsRowOf n sender told row
+      → ((before : Reading) (named : Option Names) → IsNext before n → IsToldBy told n → HasNames row named
+      → entry_in before row named ≡ Ok n) → (M : Lists) (x : Note) → IsRead b row x → M ≡ with_note L row x
+      → AddsEntry L n sender told M
+  adds_entry sender row is_row back M x is keeps =
+      let here : IsNext b n = is_next row x is is_row.after in
+      let one : entry_in b row is.0 ≡ Ok n = back b is.0 here next.tells is.1 in
+      let two : entry_in b row is.0 ≡ Ok x = is.2 in
+      let same : x ≡ n = cc in (row, is_row, keeps ∙ ap (with_note L row) same)
+
+module _ (L : Lists) (n : Note) (sender : Sender) (told : List ℕ) where
+  pub known_keeps : is_known L.kept.history L.notes n ≡ true → Keeps L n sender told L
+  known_keeps is = subst (λ b. MatchBool b (L ≡ L) (AddsEntry L n sender told L)) (sym is) refl
+
+  pub new_keeps : (M : Lists) → is_known L.kept.history L.notes n ≡ false → AddsEntry L n sender told M
+      → Keeps L n sender told M
+  new_keeps M is adds = subst (λ b. MatchBool b (M ≡ L) (AddsEntry L n sender told M)) (sym is) adds
+
+  pub some_keeps : (entry : Option Note) (M : Lists) → entry ≡ Some n → Keeps L n sender told M
+      → KeepsAny L entry sender told M
+  some_keeps entry M is keeps = subst (λ (o : Option Note). KeepsAny L o sender told M) (sym is) keeps
+
+pub none_keeps : (L : Lists) (entry : Option Note) (sender : Sender) (told : List ℕ) → entry ≡ None
+    → KeepsAny L entry sender told L
+none_keeps L entry sender told is = subst (λ (o : Option Note). KeepsAny L o sender told L) (sym is) refl

@@ -82,9 +82,8 @@ with_both L s rows notes = record {
 -- The command of the change has this answer. The rows are read as entries at the end of the history
 -- before it, and both lists have the command and these entries.
 pub record KeepsCommand (L : Lists) (before : Reading) (change : Change) (rows : List BookRow)
-    (told : Stamped × Answer) (M : Lists) : Type 0 where
-  pub command : told.0 ≡ change.stamped
-  pub answer : told.1 ≡ judged_answer L.kept.history change.stamped (reply.Accepted change.detail)
+    (told : Answer) (M : Lists) : Type 0 where
+  pub answer : told ≡ judged_answer L.kept.history change.stamped (reply.Accepted change.detail)
   pub notes : List Note
   pub after : Reading
   pub are : ArePlacedAt before (length L.kept.history) rows notes after

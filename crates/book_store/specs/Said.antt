@@ -3,11 +3,9 @@ use Rattle.std.specs.Prelude.{◌≡◌, nat_lt, ℕ, Bool, true, false, ◌&&�
 use Rattle.line_book.specs.declared.note.Matter.{Matter}
 use Rattle.line_book.specs.declared.note.Matter.TheVariants.{Decision, Hold, Release}
 use Rattle.line_book.specs.declared.note.Note.{Note}
-use Rattle.line_book.specs.declared.row.BookRow.{BookRow}
-use Rattle.line_entries.specs.Rows.{IsRowOf, note_at}
-use Rattle.book_store.specs.Ended.{with_note}
-use Rattle.book_store.specs.Heard.{nobody, place_in}
+use Rattle.line_entries.specs.Rows.{note_at}
 use Rattle.book_store.specs.Lists.{Lists}
+use Rattle.book_store.specs.Noted.{AddsEntry, nobody, place_in}
 
 -- Whether somebody may say this in the entry with the number: a decision about an earlier entry, a
 -- hold, or a release.
@@ -23,5 +21,5 @@ said_entry L m = note_at (place_in L) m []
 
 -- The book has this entry more, with the number. Its row has what was said.
 abbrev pub Says : Lists → Matter → List ℕ → ℕ → Lists → Type 0
-Says L m told number M = (number ≡ (said_entry L m).number) × (row : BookRow)
-    × IsRowOf (said_entry L m) nobody told row × (M ≡ with_note L row (said_entry L m))
+Says L m told number M =
+    (number ≡ (said_entry L m).number) × AddsEntry L (said_entry L m) nobody told M

@@ -5,7 +5,8 @@
 mod fault;
 mod restoring;
 mod store;
+mod texts;
 
 pub use fault::NoteFault;
 pub use restoring::{Restored, advance, restore};
-pub use store::{BookStore, Heard};
+pub use store::BookStore;

@@ -1,21 +1,22 @@
 //! The store of both lists.
 
-ghost use Rattle.std.specs.Prelude.{◌≡◌, ◌↔◌, [], IfOk};
+ghost use Rattle.std.specs.Prelude.{◌≡◌, ◌↔◌, [], IfOk, IsTrue, OnOk};
 ghost use Rattle.sqlite.specs.State.{Survives};
 ghost use Rattle.line_book.specs.Causes.{causes};
 ghost use Rattle.line_book.specs.Go.{MayWork};
+ghost use Rattle.line_schema.specs.Stands.{has_desk};
 ghost use Rattle.book_store.specs.Lists.{ForLists, Serves, StandsFor, book_state};
 
 mod accepting;
+mod answering;
 mod entries;
-mod hearing;
 mod noting;
 mod opening;
+mod refusing;
 mod saying;
 mod state;
 
 use desk_types::Id;
-pub use hearing::Heard;
 use line_book::{Cause, Guard, Reading};
 use line_schema::{LineStore, Unavailable};
 use sqlite::Alter;
@@ -45,6 +46,19 @@ impl<S: Alter, D: KeepsRows + Drop> BookStore<S, D> {
         store
     }
 
+    /// Loads the desk if it isn't loaded. Both lists stay.
+    pub fn ready(&mut self) -> Result<(), Unavailable>
+        requires serves { Serves S.Store D.Stands self.old }
+        ensures loaded { OnOk result (IsTrue (has_desk self.new.store)) }
+        ensures stands { ForLists S.Store D.Stands self.old self.new
+            (StandsFor S.Store D.Stands self.new) }
+        ensures survives { Survives (book_state S.Store self.old) (book_state S.Store self.new)
+            (λ _. ⊥) }
+        ensures serves { Serves S.Store D.Stands self.new }
+    {
+        self.store.ready()
+    }
+
     /// Returns all causes why the machine may not work, by both lists alone. Loads the desk first if it
     /// isn't loaded.
     pub fn causes(&mut self, machine: &Id) -> Result<Vec<Cause>, Unavailable>
@@ -60,7 +74,7 @@ impl<S: Alter, D: KeepsRows + Drop> BookStore<S, D> {
             (λ _. ⊥) }
         ensures serves { Serves S.Store D.Stands self.new }
     {
-        self.store.ready()?;
+        self.ready()?;
         let Some(desk) = self.store.desk() else {
             return Err(Unavailable);
         };

@@ -21,7 +21,7 @@ use Rattle.http_stream.specs.Stream.{Outcome}
 use Rattle.http_stream.specs.declared.response.Response.{Response}
 use Rattle.book_store.specs.declared.store.BookStore.{BookStore}
 use Rattle.book_store.specs.Ended.{Ends, with_note}
-use Rattle.book_store.specs.Heard.{nobody}
+use Rattle.book_store.specs.Noted.{nobody}
 use Rattle.book_store.specs.Lists.{book_state, Lists, StandsFor}
 use Rattle.book_store.specs.Said.{said_entry, Says}
 use Rattle.line_http.specs.Gives.{Gives, GivesOne}
@@ -71,11 +71,11 @@ with_row L m told row is =
 
 said_line : (L M : Lists) (m : Matter) (told : List ℕ) (number : ℕ) → Says L m told number M
     → line_of M ≡ with_saying (line_of L) m told
-said_line L M m told number says = ap line_of says.3 ∙ with_row L m told says.1 says.2
+said_line L M m told number says = ap line_of says.1.2 ∙ with_row L m told says.1.0 says.1.1
 
 said_own : (L M : Lists) (m : Matter) (told : List ℕ) (number : ℕ) → Says L m told number M → IsTrue L.kept.own
     → IsTrue M.kept.own
-said_own L M m told number says own = subst (λ (N : Lists). IsTrue N.kept.own) (sym says.3) own
+said_own L M m told number says own = subst (λ (N : Lists). IsTrue N.kept.own) (sym says.1.2) own
 
 no_memory : (fault : LineFault) → is_memory fault ≡ false → fault ≢ NoMemory
 no_memory fault is same = let two = sym (ap is_memory same) ∙ is in cc

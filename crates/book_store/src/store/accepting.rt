@@ -23,15 +23,11 @@ use state_rows::KeepsRows;
 use std::alloc::Global;
 
 impl<S: Alter, D: KeepsRows + Drop> BookStore<S, D> {
-    /// Accepts a change that `hear` returned, and commits its command with the entries about it in
-    /// one transaction before it returns. The entries stand behind the others, at the end of the
-    /// history before the command. Rows that could not be read again as these entries are refused.
-    /// After an error neither is committed.
-    pub fn accept(
-        &mut self,
-        change: Change,
-        rows: &[BookRow],
-    ) -> Result<(Stamped, Answer), NoteFault>
+    /// Accepts a judged change, and commits its command with the entries about it in one transaction
+    /// before it returns. The entries stand behind the others, at the end of the history before the
+    /// command. Rows that could not be read again as these entries are refused. After an error neither is
+    /// committed.
+    pub fn accept(&mut self, change: Change, rows: &[BookRow]) -> Result<Answer, NoteFault>
         requires serves { Serves S.Store D.Stands self.old }
         requires ready { CanCommit D.Stands self.old.store change }
         // Both lists have the command and its entries, on disk; or they are the same, and so is what
@@ -56,7 +52,7 @@ impl<S: Alter, D: KeepsRows + Drop> BookStore<S, D> {
         self.reading = reading;
         take_all(&mut self.guard, notes.as_slice());
         take_command(&mut self.guard, &stamped);
-        Ok((stamped, answer))
+        Ok(answer)
     }
 }
 

@@ -10,11 +10,14 @@ ghost use Rattle.line_book.specs.Rows.{read_on};
 ghost use Rattle.line_book_store.specs.Checking.{IsRead};
 ghost use Rattle.book_store.specs.Accepted.{RefusesRow};
 ghost use Rattle.book_store.specs.Ended.{Ends, with_note};
-ghost use Rattle.book_store.specs.Lists.{ForLists, Lists, Serves, book_state};
+ghost use Rattle.book_store.specs.Lists.{ForLists, Lists, Serves, StandsFor, book_state};
+ghost use Rattle.book_store.specs.Noted.{AddsEntry, IsNextEntry, KeepsAny, place_in};
 
 use crate::fault::NoteFault;
 use crate::store::BookStore;
 use line_book::{BookRow, Guard, Note, Reading, RowFault};
+use line_entries::{Place, Sender, row_of};
+use line_schema::Unavailable;
 use sqlite::Alter;
 use state_rows::KeepsRows;
 use std::alloc::Global;
@@ -40,6 +43,69 @@ impl<S: Alter, D: KeepsRows + Drop> BookStore<S, D> {
         self.reading = reading;
         take_in(&mut self.guard, &entry);
         Ok(())
+    }
+
+    /// Returns where the next entry is written. If a command has several, they are numbered on from
+    /// it, at the same place of the history.
+    pub fn place(&self) -> Result<Place, Unavailable>
+        ensures { (L : Lists) → StandsFor S.Store D.Stands self.now L
+            → IfOk result (λ place. place ≡ place_in L) }
+    {
+        match self.reading.entries.checked_add(1) {
+            Some(number) => Ok(Place {
+                number,
+                after: self.store.count(),
+                carries: 0,
+            }),
+            None => Err(Unavailable),
+        }
+    }
+
+    /// Writes the next entry, with what the sender said.
+    pub fn write(&mut self, note: &Note, sender: &Sender, told: &[u8]) -> Result<(), Unavailable>
+        requires serves { Serves S.Store D.Stands self.old }
+        // What is read from its row is this entry.
+        ensures written { ForLists S.Store D.Stands self.old self.new (λ L.
+            IsNextEntry L told.now note.now
+            → Ends S.Store D.Stands self.old self.new L result
+            (λ _. AddsEntry L note.now sender.now told.now)) }
+        ensures clean { HasCleanDisk (book_state S.Store self.new)
+            → HasCleanDisk (book_state S.Store self.old) }
+        ensures serves { Serves S.Store D.Stands self.new }
+    {
+        let row = row_of(self.alloc, note, sender, told)?;
+        match self.note(&row) {
+            Ok(()) => Ok(()),
+            Err(_) => Err(Unavailable),
+        }
+    }
+
+    /// Writes the next entry if there is one, unless the book has it in an entry that still stands.
+    pub fn keep(
+        &mut self,
+        entry: &Option<Note>,
+        sender: &Sender,
+        told: &[u8],
+    ) -> Result<(), Unavailable>
+        requires serves { Serves S.Store D.Stands self.old }
+        ensures kept { ForLists S.Store D.Stands self.old self.new (λ L.
+            IfSome entry.now (IsNextEntry L told.now)
+            → Ends S.Store D.Stands self.old self.new L result
+            (λ _. KeepsAny L entry.now sender.now told.now)) }
+        ensures clean { HasCleanDisk (book_state S.Store self.new)
+            → HasCleanDisk (book_state S.Store self.old) }
+        ensures serves { Serves S.Store D.Stands self.new }
+    {
+        let Some(note) = entry else {
+            return Ok(());
+        };
+        let Some(guard) = &self.guard else {
+            return Err(Unavailable);
+        };
+        if guard.is_known(note) {
+            return Ok(());
+        }
+        self.write(note, sender, told)
     }
 }
 

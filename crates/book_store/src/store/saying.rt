@@ -8,7 +8,7 @@ ghost use Rattle.book_store.specs.Said.{Says, may_say};
 
 use crate::store::BookStore;
 use line_book::Matter;
-use line_entries::{Sender, plain_note, row_of};
+use line_entries::{Sender, plain_note};
 use line_schema::Unavailable;
 use sqlite::Alter;
 use state_rows::KeepsRows;
@@ -35,11 +35,8 @@ impl<S: Alter, D: KeepsRows + Drop> BookStore<S, D> {
             source: None,
             uid: None,
         };
-        let row = row_of(self.alloc, &entry, &sender, told)?;
-        match self.note(&row) {
-            Ok(()) => Ok(place.number),
-            Err(_) => Err(Unavailable),
-        }
+        self.write(&entry, &sender, told)?;
+        Ok(place.number)
     }
 }
 

@@ -26,7 +26,7 @@ impl<S: Alter, D: KeepsRows + Drop> BookStore<S, D> {
             (λ _. ⊥) }
         ensures serves { Serves S.Store D.Stands self.new }
     {
-        self.store.ready()?;
+        self.ready()?;
         let number = u64::from(self.store.count());
         let Some(desk) = self.store.desk() else {
             return Err(Unavailable);

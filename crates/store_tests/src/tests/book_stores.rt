@@ -4,9 +4,10 @@ ghost use Rattle.std.specs.Prelude.{IfOk};
 ghost use Rattle.book_store.specs.Lists.{Serves};
 
 use super::{close, new_files};
-use book_store::{BookStore, Heard};
-use desk_answers::Answer;
-use desk_types::{Desk, Id, Text};
+use book_store::BookStore;
+use cfx_profile::{Said, read_message};
+use desk_feed::{AnswerText, Verdict};
+use desk_types::{Desk, Id, Stamped, Text};
 use feeder_state::StateDesk;
 use line_book::{BookRow, Cause, Matter, Stock};
 use line_book_store::BookFault;
@@ -24,6 +25,13 @@ const SHEET: &str =
 
 const START: &str =
     "{\"MessageName\":\"TraceDesk.WorkStarted\",\"UniqueID\":\"u3\",\"Source\":\"S\",\"TimeStamp\":\"1970-01-01T00:00:00Z\",\"MessageBody\":{\"Machine\":\"M\",\"Board\":\"B\"}}";
+
+const OTHER: &str =
+    "{\"MessageName\":\"Other\",\"UniqueID\":\"u4\",\"Source\":\"S\",\"TimeStamp\":\"1970-01-01T00:00:00Z\",\"MessageBody\":{}}";
+
+/// The answer to the start.
+const REFUSED: &str =
+    "{\"Answer\":\"Refused\",\"At\":\"M\",\"Refusal\":\"NoProduct\",\"UniqueID\":\"u3\"}";
 
 /// The state of the machine: no board in work, the refused start, and no product.
 const STATE: &str =
@@ -45,31 +53,33 @@ fn opened<S: Alter>(
     }
 }
 
-/// What came of some messages, and of what somebody said.
+/// What came of some messages, of an import, and of what somebody said.
 #[derive(Drop)]
 struct Written {
-    part: Result<Heard, Unavailable>,
-    sheet: Result<Heard, Unavailable>,
-    refused: Result<Heard, Unavailable>,
-    again: Result<Heard, Unavailable>,
-    faulty: Result<Heard, Unavailable>,
+    part: Result<AnswerText, Unavailable>,
+    sheet: Result<AnswerText, Unavailable>,
+    refused: Result<AnswerText, Unavailable>,
+    again: Result<AnswerText, Unavailable>,
+    faulty: Result<AnswerText, Unavailable>,
+    ignored: Result<AnswerText, Unavailable>,
     decided: Result<u32, Unavailable>,
     held: Result<u32, Unavailable>,
     undecidable: Result<u32, Unavailable>,
 }
 
-/// Two commands, a refused start of work, twice, and a fault, with the entries of both; a decision about the fault, a
-/// hold, and a decision about an entry that isn't there.
-fn write_both<S: Alter>(both: &mut BookStore<S, StateDesk>, reel: Id) -> Written
+/// A message, an import, a refused start of work, twice, and a fault, with the entries of both, and another message; a
+/// decision about the fault, a hold, and a decision about an entry that isn't there.
+fn write_both<S: Alter>(both: &mut BookStore<S, StateDesk>, sheet: &Stamped, reel: Id) -> Written
     requires { Serves S.Store (⟦<StateDesk as Desk>⟧.Stands) both.old }
 {
     let stock = Stock::Reel(reel);
     Written {
         part: both.answer(PART.as_bytes()),
-        sheet: both.answer(SHEET.as_bytes()),
+        sheet: both.command(sheet),
         refused: both.answer(START.as_bytes()),
-        again: both.hear(START.as_bytes()),
-        faulty: both.hear(b"no message"),
+        again: both.answer(START.as_bytes()),
+        faulty: both.answer(b"no message"),
+        ignored: both.answer(OTHER.as_bytes()),
         decided: both.say(Matter::Decision { about: 2 }, b"counted"),
         held: both.say(Matter::Hold { stock }, b"held"),
         undecidable: both.say(Matter::Decision { about: 5 }, b"of itself"),
@@ -79,12 +89,13 @@ fn write_both<S: Alter>(both: &mut BookStore<S, StateDesk>, reel: Id) -> Written
 fn written_over<S: Alter>(
     alloc: Global,
     conn: Connection<S>,
+    sheet: &Stamped,
     reel: Id,
 ) -> (Option<Written>, Connection<S>) {
     match opened(alloc, conn) {
         Ok(both) => {
             let mut both = both;
-            let written = write_both(&mut both, reel);
+            let written = write_both(&mut both, sheet, reel);
             (Some(written), both.into_store().into_connection())
         }
         Err(conn) => (None, conn),
@@ -128,6 +139,13 @@ fn read_over<S: Alter>(
     }
 }
 
+fn is_told(answer: &Result<AnswerText, Unavailable>, verdict: Verdict) -> bool {
+    match answer {
+        Ok(told) => told.verdict == verdict,
+        Err(_) => false,
+    }
+}
+
 fn are_written(rt: &impl Abort, written: Written) -> Result<(), Fail> {
     let Written {
         part,
@@ -135,15 +153,18 @@ fn are_written(rt: &impl Abort, written: Written) -> Result<(), Fail> {
         refused,
         again,
         faulty,
+        ignored,
         decided,
         held,
         undecidable,
     } = written;
-    assert!(rt; matches!(part, Ok(Heard::Answered(_, Answer::Accepted(1, _)))));
-    assert!(rt; matches!(sheet, Ok(Heard::Answered(_, Answer::Accepted(2, _)))));
-    assert!(rt; matches!(refused, Ok(Heard::Answered(_, Answer::Refused(_)))));
-    assert!(rt; matches!(again, Ok(Heard::Answered(_, Answer::Refused(_)))));
-    assert!(rt; matches!(faulty, Ok(Heard::Faulty(_))));
+    assert!(rt; is_told(&part, Verdict::Accepted) && is_told(&sheet, Verdict::Accepted));
+    assert!(rt; is_told(&refused, Verdict::Refused) && is_told(&again, Verdict::Refused));
+    assert!(rt; is_told(&faulty, Verdict::Unreadable) && is_told(&ignored, Verdict::Ignored));
+    let Ok(refused) = refused else {
+        return Err(Fail::from("no answer"));
+    };
+    assert!(rt; refused.text.as_slice() == REFUSED.as_bytes());
     assert!(rt; decided == Ok(3) && held == Ok(4) && undecidable.is_err());
     Ok(())
 }
@@ -192,6 +213,9 @@ fn made_alone<S: Alter>(alloc: Global, conn: Connection<S>) -> Connection<S> {
 fn both_lists_are_read_again(rt: HostRuntime) -> Result<(), Fail> {
     let machine = Id::read(b"M").ok_or("no machine")?;
     let reel = Id::read(b"K1").ok_or("no reel")?;
+    let Ok(Said::Asked(sheet)) = read_message(rt.alloc(), SHEET.as_bytes()) else {
+        return Err(Fail::from("no sheet"));
+    };
     for is_together in [true, false] {
         let conn = new_files(rt.alloc())?;
         let conn = if is_together {
@@ -199,7 +223,7 @@ fn both_lists_are_read_again(rt: HostRuntime) -> Result<(), Fail> {
         } else {
             made_alone(rt.alloc(), conn)
         };
-        let (written, conn) = written_over(rt.alloc(), conn, reel);
+        let (written, conn) = written_over(rt.alloc(), conn, &sheet, reel);
         let (read, conn) = read_over(rt.alloc(), conn, &machine);
         close(conn);
         are_written(&rt, written.ok_or(AllocError)?)?;

@@ -34,9 +34,7 @@ returns-clause-accepted g c L was clean own first =
     (c.take_command.ensures H (L.notes ++ notes) took) in
     let same : c.from.result ≡ c.count-2.result = search rules in
     let counted : c.from.result ≡ length (accept H s) = same ∙ c.count-2.ensures (with_command L.kept s) both.stands in
-    let accepts : KeepsCommand L old.reading change rows (c.in_ok-stamped.stamped, c.in_ok-answer.answer)
-    (with_both L s rows notes) = record {
-      command = told;
+    let accepts : KeepsCommand L old.reading change rows c.in_ok-answer.answer (with_both L s rows notes) = record {
       answer = (c.in_ok-answer.ensures.answers L.kept was.both.stands).answer;
       notes = notes;
       after = after;
@@ -53,8 +51,7 @@ returns-clause-accepted g c L was clean own first =
       err = tt;
       crash = λ trees may. elim ((commits.survives own).crash clean trees may) [
         | inl before ↦ inl before
-        | inr left ↦ inr
-            ((c.in_ok-stamped.stamped, c.in_ok-answer.answer), with_both L s rows notes, accepts, left)
+        | inr left ↦ inr (c.in_ok-answer.answer, with_both L s rows notes, accepts, left)
       ];
     }
 
@@ -71,8 +68,7 @@ returns-in_err-answer-clause-accepted g c L was clean own first =
     let commits = c.in_err-answer.ensures.commits L.kept L.rows was.both on in
     let s = change.stamped in
     let answer = judged_answer L.kept.history s (reply.Accepted change.detail) in
-    let accepts : KeepsCommand L old.reading change rows (s, answer) (with_both L s rows notes) = record {
-      command = refl;
+    let accepts : KeepsCommand L old.reading change rows answer (with_both L s rows notes) = record {
       answer = refl;
       notes = notes;
       after = after;
@@ -85,7 +81,7 @@ returns-in_err-answer-clause-accepted g c L was clean own first =
       ok = tt;
       err = record { both = commits.err; read = was.read; guard = was.guard };
       crash = λ trees may. elim ((commits.survives own).crash clean trees may)
-          [ inl before ↦ inl before | inr left ↦ inr ((s, answer), with_both L s rows notes, accepts, left) ];
+          [ inl before ↦ inl before | inr left ↦ inr (answer, with_both L s rows notes, accepts, left) ];
     })
 
 pub returns-clause-clean : goal.returns-clause-clean
