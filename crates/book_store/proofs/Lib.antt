@@ -9,5 +9,6 @@ pub mod Loading
 pub mod Noting
 pub mod Opening
 pub mod Places
+pub mod Showing
 pub mod Until
 pub mod WholeBook

@@ -9,6 +9,7 @@ use cfx_profile::{Said, read_message};
 use desk_feed::{AnswerText, Verdict};
 use desk_types::{Desk, Id, Stamped, Text};
 use feeder_state::StateDesk;
+use line_answers::Wanted;
 use line_book::{BookRow, Cause, Matter, Stock};
 use line_book_store::BookFault;
 use line_schema::{LineStore, Unavailable};
@@ -32,6 +33,17 @@ const OTHER: &str =
 /// The answer to the start.
 const REFUSED: &str =
     "{\"Answer\":\"Refused\",\"At\":\"M\",\"Refusal\":\"NoProduct\",\"UniqueID\":\"u3\"}";
+
+/// The rows behind the second: the decision and the hold.
+const LATER: &str = "n,after,kind,source,uid,machine,slot,board,reel,word,of,told,state
+3,2,decision,,,,,,,,2,counted,
+4,2,hold,,,,,,K1,,0,held,
+";
+
+/// What waits for a decision: the refused start.
+const WAITING: &str = "n,after,kind,source,uid,machine,slot,board,reel,word,of,told,state
+1,2,work,S,u3,M,,B,,NoProduct,0,\"{\"\"MessageName\"\":\"\"TraceDesk.WorkStarted\"\",\"\"UniqueID\"\":\"\"u3\"\",\"\"Source\"\":\"\"S\"\",\"\"TimeStamp\"\":\"\"1970-01-01T00:00:00Z\"\",\"\"MessageBody\"\":{\"\"Machine\"\":\"\"M\"\",\"\"Board\"\":\"\"B\"\"}}\",open
+";
 
 /// The state of the machine: no board in work, the refused start, and no product.
 const STATE: &str =
@@ -107,6 +119,8 @@ fn written_over<S: Alter>(
 struct Read {
     last: u32,
     rows: Result<Vec<BookRow>, Unavailable>,
+    later: Result<Text, Unavailable>,
+    waiting: Result<Text, Unavailable>,
     state: Result<Option<Text>, Unavailable>,
     causes: Result<Vec<Cause>, Unavailable>,
 }
@@ -117,6 +131,8 @@ fn read_both<S: Alter>(both: &mut BookStore<S, StateDesk>, machine: &Id) -> Read
     Read {
         last: both.last_entry(),
         rows: both.entries(1, 2),
+        later: both.book(Wanted::After(2)),
+        waiting: both.book(Wanted::Undecided),
         state: both.state(machine),
         causes: both.causes(machine),
     }
@@ -142,6 +158,13 @@ fn read_over<S: Alter>(
 fn is_told(answer: &Result<AnswerText, Unavailable>, verdict: Verdict) -> bool {
     match answer {
         Ok(told) => told.verdict == verdict,
+        Err(_) => false,
+    }
+}
+
+fn is_text(found: &Result<Text, Unavailable>, text: &str) -> bool {
+    match found {
+        Ok(found) => found.as_slice() == text.as_bytes(),
         Err(_) => false,
     }
 }
@@ -173,10 +196,13 @@ fn are_read(rt: &impl Abort, read: Read) -> Result<(), Fail> {
     let Read {
         last,
         rows,
+        later,
+        waiting,
         state,
         causes,
     } = read;
     assert!(rt; last == 4);
+    assert!(rt; is_text(&later, LATER) && is_text(&waiting, WAITING));
     let Ok(rows) = rows else {
         return Err(Fail::from("no rows"));
     };
