@@ -2,7 +2,7 @@
 use Rattle.desk_types.proofs.Common.{◌≡◌, arith, Basis, Err, IfSome, inl, inr, IsTrue, Ok, Option, Result, Some, subst, sym}
 use Rattle.line_book_store.specs.Book.{HoldsBook}
 use Rattle.line_schema.proofs.Verdicts.{keeps_of}
-use Rattle.line_schema.specs.{Frames.LetsOthersBe, Frames.MakesDesk, Frames.ReadsStore, Stands.state_of}
+use Rattle.line_schema.specs.{Frames.LetsOthersBe, Frames.MakesDesk, Frames.ReadsStore, Stands.has_desk, Stands.state_of}
 use Rattle.line_schema.specs.{declared.store.LineStore.LineStore}
 use Rattle.line_schema.specs.Verdict.{KeepsBoth}
 use Rattle.line_tables.proofs.Common.{Database, Ghosts, HasCleanDisk, State, Survives, Trees}
@@ -55,6 +55,13 @@ lists_read g F old new reads L was clean own = record {
   read = was.read;
   guard = was.guard;
 }
+
+-- A call over a loaded desk, which makes none, changes neither list.
+pub lists_at_hand : {S D : Type 0} (g : Ghosts S) (F : D → Basis → Type 0) (old : BookStore S D)
+    (new : LineStore S D) → IsTrue (has_desk old.store) → MakesDesk g F old.store new
+    → ForLists g F old (record old { store = new }) (StandsFor g F (record old { store = new }))
+lists_at_hand {S} {D} g F old new loaded makes L was clean own = subst
+    (λ (store : LineStore S D). StandsFor g F (record old { store = store }) L) (sym (makes.at_hand loaded)) was
 
 -- ---- after a call that changed neither list
 

@@ -1,6 +1,7 @@
 //! The store of both lists.
 
 ghost use Rattle.std.specs.Prelude.{◌≡◌, ◌↔◌, [], IfOk, IsTrue, OnOk};
+ghost use Rattle.std.specs.Borrow.{sem};
 ghost use Rattle.sqlite.specs.State.{Survives};
 ghost use Rattle.line_book.specs.Causes.{causes};
 ghost use Rattle.line_book.specs.Go.{MayWork};
@@ -33,6 +34,8 @@ pub struct BookStore<S: Alter, D: KeepsRows + Drop> {
 }
 
 impl<S: Alter, D: KeepsRows + Drop> BookStore<S, D> {
+    ghost use Rattle.book_store.specs.Lent.{LendsHistory};
+
     /// Returns the store of the history, with its connection. Takes no memory.
     pub fn into_store(self) -> LineStore<S, D>
         ensures { result ≡ self.store }
@@ -44,6 +47,15 @@ impl<S: Alter, D: KeepsRows + Drop> BookStore<S, D> {
             guard: _guard,
         } = self;
         store
+    }
+
+    /// Lends the store of the history. It is loaded after [`BookStore::ready`]. The caller must leave both
+    /// lists.
+    pub fn history(&mut self) -> &mut LineStore<S, D>
+        ensures* lends { sem 𝓛 (LendsHistory S.row D.row S.Store self.entry result) }
+        ensures value { result.now ≡ self.old.store }
+    {
+        &mut self.store
     }
 
     /// Loads the desk if it isn't loaded. Both lists stay.

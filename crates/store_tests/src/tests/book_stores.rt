@@ -118,6 +118,7 @@ fn written_over<S: Alter>(
 #[derive(Drop)]
 struct Read {
     last: u32,
+    commands: u32,
     rows: Result<Vec<BookRow>, Unavailable>,
     later: Result<Text, Unavailable>,
     waiting: Result<Text, Unavailable>,
@@ -130,6 +131,7 @@ fn read_both<S: Alter>(both: &mut BookStore<S, StateDesk>, machine: &Id) -> Read
 {
     Read {
         last: both.last_entry(),
+        commands: both.history().count(),
         rows: both.entries(1, 2),
         later: both.book(Wanted::After(2)),
         waiting: both.book(Wanted::Undecided),
@@ -195,13 +197,14 @@ fn are_written(rt: &impl Abort, written: Written) -> Result<(), Fail> {
 fn are_read(rt: &impl Abort, read: Read) -> Result<(), Fail> {
     let Read {
         last,
+        commands,
         rows,
         later,
         waiting,
         state,
         causes,
     } = read;
-    assert!(rt; last == 4);
+    assert!(rt; last == 4 && commands == 2);
     assert!(rt; is_text(&later, LATER) && is_text(&waiting, WAITING));
     let Ok(rows) = rows else {
         return Err(Fail::from("no rows"));
