@@ -1,1 +1,2 @@
+pub mod DeskAlike
 pub mod Lines

@@ -1,10 +1,12 @@
--- The answer to a request to the line's own routes, and both lists after it.
+-- The answer to a request, and both lists after it.
 use Rattle.std.specs.Prelude.{ℕ, ◌+◌, Bool, Err, false, List, None, Ok, Option, Result, Some, length, true}
 use Rattle.gateway_http.specs.Answer as request
+use Rattle.gateway_http.specs.Asked.{path_of, query_of}
 use Rattle.gateway_http.specs.Requests.{json}
 use Rattle.gateway_http.specs.Statuses.{request_fault_status}
 use Rattle.gateway_http.specs.declared.fault.AskFault.{AskFault}
 use Rattle.http_stream.specs.Answers.{Told}
+use Rattle.http_stream.specs.Cut.{Request}
 use Rattle.http_stream.specs.Stream.{Outcome, Rule}
 use Rattle.http_stream.specs.declared.response.Status.{Status}
 use Rattle.http_stream.specs.declared.response.Status.TheVariants as status
@@ -21,8 +23,11 @@ use Rattle.line_answers.specs.declared.noted.Noted.TheVariants.{Decided, Held, R
 use Rattle.line_book.specs.declared.note.Matter.{Matter}
 use Rattle.line_http.specs.declared.asked.Asked.{Asked}
 use Rattle.line_http.specs.declared.asked.Asked.TheVariants as asks
-use Rattle.line_http.specs.Asked.{asked_of}
+use Rattle.line_http.specs.declared.routes.Route.{Route}
+use Rattle.line_http.specs.Asked.{asked_by}
+use Rattle.line_http.specs.Desk.{desk_outcome}
 use Rattle.line_http.specs.Line.{Line, with_saying}
+use Rattle.line_http.specs.Routes.{route_of}
 
 -- An answer that leaves both lists unchanged.
 abbrev pub leaving : Line → Told → Outcome Line
@@ -67,14 +72,21 @@ state_told None = json status.NotFound (not_found_text Machine)
 
 -- ---- a request
 
+-- The outcome of a request to one of the line's own routes.
 abbrev pub asked_outcome : Line → List ℕ → Result Asked AskFault → Outcome Line
 asked_outcome line body (Ok (asks.Say noted)) =
     said_outcome line noted body (body_said noted (length line.notes) body)
 asked_outcome line body (Ok (asks.State machine)) =
-    leaving line (state_told (state_text line.history line.notes machine))
+    leaving line (state_told (state_text line.desk.history line.notes machine))
 asked_outcome line body (Err fault) =
     leaving line (json (request_fault_status fault) (request.fault_text fault))
 
--- The rule of the line's own routes.
+-- The outcome of a request with this path: one of the line's own routes, or else the desk's.
+abbrev pub route_outcome : Line → Request → Option Route → Outcome Line
+route_outcome line r (Some route) =
+    asked_outcome line r.body (asked_by route r.method (query_of r.target))
+route_outcome line r None = desk_outcome line r
+
+-- The rule of a line's routes.
 abbrev pub line_rule : Rule Line
-line_rule line r = asked_outcome line r.body (asked_of r.method r.target)
+line_rule line r = route_outcome line r (route_of (path_of r.target))

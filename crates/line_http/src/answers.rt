@@ -5,36 +5,64 @@ ghost use Rattle.sqlite.specs.State.{HasCleanDisk};
 ghost use Rattle.http_stream.specs.Answers.{response_told};
 ghost use Rattle.line_answers.specs.State.{state_text};
 ghost use Rattle.book_store.specs.Lists.{Serves, book_state};
-ghost use Rattle.line_http.specs.Asked.{asked_of};
+ghost use Rattle.line_http.specs.Asked.{asked_by};
 ghost use Rattle.line_http.specs.Gives.{Gives};
-ghost use Rattle.line_http.specs.Rule.{asked_outcome, leaving, state_told};
+ghost use Rattle.line_http.specs.Rule.{asked_outcome, leaving, line_rule, state_told};
 
 use crate::asked::{Asked, read_request};
+use crate::desk::answer_desk;
+use crate::routes::{Route, route_of};
 use crate::sayings::answer_saying;
 use book_store::BookStore;
 use desk_types::{Id, Text};
-use gateway_http::{AskFault, Response, Status, Unavailable, answer_fault, json};
+use gateway_http::{
+    AskFault, Response, RouteTable, Status, Unavailable, answer_fault, cut_target, json,
+};
 use line_answers::{Kind, not_found_text};
 use sqlite::Alter;
 use state_rows::KeepsRows;
 use std::alloc::Global;
 
-/// Answers a request to the line's own routes.
+/// Answers a request: to one of the line's own routes, or else to the desk.
 pub fn answer_request<S: Alter, D: KeepsRows + Drop>(
     alloc: Global,
     store: &mut BookStore<S, D>,
+    routes: Option<&RouteTable>,
     method: &[u8],
     target: &[u8],
     body: &[u8],
 ) -> Result<Response, Unavailable>
     requires serves { Serves S.Store D.Stands store.old }
-    ensures gives { Gives S.Store D.Stands store.old store.new result
-        (λ line. asked_outcome line body.now (asked_of method.now target.now)) }
+    ensures gives { Gives S.Store D.Stands store.old store.new result (λ line. line_rule line
+        (record { method = method.now; target = target.now; body = body.now })) }
     ensures clean { HasCleanDisk (book_state S.Store store.new)
         → HasCleanDisk (book_state S.Store store.old) }
     ensures serves { Serves S.Store D.Stands store.new }
 {
-    match read_request(alloc, method, target) {
+    let (path, query) = cut_target(target);
+    match route_of(path) {
+        Some(route) => answer_own(alloc, store, route, method, query, body),
+        None => answer_desk(alloc, store, routes, method, target, body),
+    }
+}
+
+/// Answers a request to one of the line's own routes.
+fn answer_own<S: Alter, D: KeepsRows + Drop>(
+    alloc: Global,
+    store: &mut BookStore<S, D>,
+    route: Route,
+    method: &[u8],
+    query: &[u8],
+    body: &[u8],
+) -> Result<Response, Unavailable>
+    requires serves { Serves S.Store D.Stands store.old }
+    ensures gives { Gives S.Store D.Stands store.old store.new result
+        (λ line. asked_outcome line body.now (asked_by route method.now query.now)) }
+    ensures clean { HasCleanDisk (book_state S.Store store.new)
+        → HasCleanDisk (book_state S.Store store.old) }
+    ensures serves { Serves S.Store D.Stands store.new }
+{
+    match read_request(alloc, route, method, query) {
         Ok(asked) => answer_asked(alloc, store, asked, body),
         Err(AskFault::NoMemory) => Err(Unavailable),
         Err(fault) => answer_fault(alloc, fault),
@@ -69,7 +97,7 @@ fn answer_state<S: Alter, D: KeepsRows + Drop>(
 ) -> Result<Response, Unavailable>
     requires serves { Serves S.Store D.Stands store.old }
     ensures gives { Gives S.Store D.Stands store.old store.new result
-        (λ line. leaving line (state_told (state_text line.history line.notes machine.now))) }
+        (λ line. leaving line (state_told (state_text line.desk.history line.notes machine.now))) }
     ensures clean { HasCleanDisk (book_state S.Store store.new)
         → HasCleanDisk (book_state S.Store store.old) }
     ensures serves { Serves S.Store D.Stands store.new }

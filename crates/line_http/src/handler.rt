@@ -1,4 +1,4 @@
-//! The handler of the line's own routes, and a connection to it.
+//! The handler of a line's routes, and a connection to it.
 
 ghost use Rattle.desk_types.specs.Wire.{inner_of};
 ghost use Rattle.desk_answers.specs.Shown.{CanCountRun, CountsRun};
@@ -12,19 +12,21 @@ use crate::answers::answer_request;
 use book_store::BookStore;
 use desk_answers::{ServeFault, Served};
 use desk_types::Wire;
-use gateway_http::{Response, Unavailable};
+use gateway_http::{Response, RouteTable, Unavailable, make_missing};
 use http_stream::Handler;
 use sqlite::Alter;
 use state_rows::KeepsRows;
 use std::alloc::Global;
 use std::io::{Read, Write};
 
-/// A store of both lists that is lent, and answers the line's own routes.
-struct LineHandler<'a, S: Alter, D: KeepsRows + Drop> {
-    store: &'a mut BookStore<S, D>,
+/// A store of both lists, with the desk's routes, which the first request makes. If memory for them is refused, the next
+/// request tries again.
+pub struct LineHandler<'a, S: Alter, D: KeepsRows + Drop> {
+    pub store: &'a mut BookStore<S, D>,
+    pub routes: &'a mut Option<RouteTable>,
 }
 
-/// It answers by the rule of the line's own routes.
+/// It answers by the rule of a line's routes.
 impl<'a, S: Alter, D: KeepsRows + Drop> Handler for LineHandler<'a, S, D> {
     ghost use Rattle.std.specs.Prelude.{◌≡◌};
     ghost use Rattle.sqlite.specs.State.{HasCleanDisk};
@@ -45,7 +47,15 @@ impl<'a, S: Alter, D: KeepsRows + Drop> Handler for LineHandler<'a, S, D> {
     ghost held = { λ handler. handler.store.ghost_name };
 
     fn handle(&mut self, alloc: Global, method: &[u8], target: &[u8], body: &[u8]) -> Response {
-        match answer_request(alloc, self.store, method, target, body) {
+        make_missing(alloc, self.routes);
+        match answer_request(
+            alloc,
+            self.store,
+            self.routes.as_ref(),
+            method,
+            target,
+            body,
+        ) {
             Ok(response) => response,
             Err(Unavailable) => Response::unavailable(),
         }
@@ -97,8 +107,15 @@ pub fn serve<R: Read, W: Write, S: Alter, D: KeepsRows + Drop>(
         (W.contents (inner_of output.new)) result) }
     ensures counts { CountsRun result input.old input.new output.old output.new }
 {
-    let mut handler = LineHandler { store };
+    let mut routes = None;
+    let mut handler = LineHandler {
+        store,
+        routes: &mut routes,
+    };
     let ended = handler.serve(alloc, input, output);
-    let LineHandler { store: _ } = handler;
+    let LineHandler {
+        store: _,
+        routes: _,
+    } = handler;
     ended
 }

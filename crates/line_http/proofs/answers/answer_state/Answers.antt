@@ -15,7 +15,7 @@ returns-in_err-found-clause-gives g c =
 pub returns-clause-gives : goal.returns-clause-gives
 returns-clause-gives g c line was clean =
     let text = c.in_ok-found.ensures.text was.lists was.stands clean was.own
-    ∙ sym (ap (λ (l : Line). state_text l.history l.notes c.args.machine.now) was.same) in
+    ∙ sym (ap (λ (l : Line). state_text l.desk.history l.notes c.args.machine.now) was.same) in
     told_gives g.S.Store g.D.Desk.Stands c.state.new.self line
     (still g.S.Store g.D.Desk.Stands c.args.store.now c.state.new.self line was
     (c.state.ensures.stands was.lists was.stands clean was.own)) c.tell_state.result

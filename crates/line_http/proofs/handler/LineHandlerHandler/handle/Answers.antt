@@ -1,14 +1,13 @@
 use Rattle.desk_types.proofs.Common.{false, refl, true}
-use Rattle.line_http.specs.{Asked.asked_of, Rule.asked_outcome}
+use Rattle.http_stream.specs.Cut.{Request}
+use Rattle.line_http.specs.Rule.{line_rule}
 use Rattle.line_http.proofs.handler.LineHandlerHandler.handle.Goals as goal
 
 pub returns-in-Ok-clause-told : goal.returns-in-Ok-clause-told
 returns-in-Ok-clause-told g c = λ line stands trusts.
-    let told = c.in-Ok.ensures.gives line stands trusts in (
-      (asked_outcome line c.args.body.now (asked_of c.args.method.now c.args.target.now)).after,
-      told.0.1,
-      (false, told.0.0, refl),
-    )
+    let told = c.in-Ok.ensures.gives line stands trusts in
+    let asked : Request = record { method = c.args.method.now; target = c.args.target.now; body = c.args.body.now } in
+    ((line_rule line asked).after, told.0.1, (false, told.0.0, refl))
 
 pub returns-in-Err-clause-told : goal.returns-in-Err-clause-told
 returns-in-Err-clause-told g c = λ line stands trusts.
