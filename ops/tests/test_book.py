@@ -304,15 +304,12 @@ def test_who_adds_a_row_lets_the_desk_record_it(line: Line, who: str) -> None:
 
 
 def test_a_restored_desk_records_the_newest_row_at_its_next_seal(line: Line) -> None:
-    """The copy is from before that row, and so is the book that somebody puts back later. The seal
-    after that one has what was recorded.
-    """
+    """The copy is from before that row, and so is the book that somebody puts back later."""
     given(line.archive, FIRST)
     older = taken(line)
     sealed(line).expect()
     given(line.archive, MENDED)
     line.restore().expect()
-    sealed(line).expect(4, "once its senders have sent again what it lacks")
     sealed(line).expect()
     assert boards(asked(line).expect()) == ["SN-1", "SN-3", "SN-4"]
     put(older)

@@ -76,9 +76,9 @@ def audit_of(asked: argparse.Namespace) -> sealing.Audit:
 def seal(asked: argparse.Namespace) -> int:
     """Seals the desk, and takes away what is superfluous then."""
     line: LineFolder = asked.line
+    books.record(line.sealed)  # a call that is cut off here has sealed nothing, and says nothing
     made = sealing.seal(line, audit_of(asked))
     faults = [*swept(line, made), *books.faults_of(line)]
-    books.record(line.sealed)
     plant.write_out(f"{made.path}: lawful {made.commands}\n")
     return told(faults, SEE_TO_IT)
 
