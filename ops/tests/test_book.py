@@ -8,12 +8,14 @@ import pathlib
 from collections.abc import Callable
 
 import pytest
+from lab import files as desk_files
 from lab import small
+from lab.folders import audit, line_of, seal
 from lab.killed import killed_at
 from lab.line import Line, NewLine, table
 from lab.records import a_record
 from lab.tools import Ended, Word, run_tool
-from tracedesk_ops import attributes, book, books, collecting, plant, untraced
+from tracedesk_ops import attributes, book, books, change, collecting, plant, untraced
 from tracedesk_ops.attributes import Reel
 
 pytestmark = pytest.mark.xdist_group("book")
@@ -141,8 +143,9 @@ def test_each_row_is_there_once_and_noted_wherever_a_call_is_killed(folder: path
             given(archive, FIRST)
         assert attributes.BOOK.head_of(archive)
         given(archive, FIRST)
-        rows, wrong = attributes.rows_of(archive, [head, attributes.BOOK.head_of(archive)])
-        assert ([row.its for row in rows], wrong) == (FIRST, [])
+        found, recorded = attributes.BOOK.read(archive), [head, attributes.BOOK.head_of(archive)]
+        assert ([row.its for row in found.values], found.fault) == (FIRST, "")
+        assert not attributes.BOOK.lost(archive, recorded)
         assert attributes.BOOK.noted(archive)[0] == len(FIRST)
         if len(writes) < number:
             return
@@ -154,8 +157,24 @@ def test_two_writers_keep_one_book(archive: pathlib.Path) -> None:
     with concurrent.futures.ThreadPoolExecutor(4) as threads:
         done = [threads.submit(attributes.add, archive, [reel], DAY, "erp") for reel in reels]
         heads = [(each.result(), attributes.BOOK.head_of(archive))[1] for each in done]
-    rows, wrong = attributes.rows_of(archive, heads)
-    assert ({row.its for row in rows}, len(rows), wrong) == ({*reels}, len(reels), [])
+    rows = attributes.BOOK.read(archive).values
+    assert ({row.its for row in rows}, len(rows)) == ({*reels}, len(reels))
+    assert not attributes.BOOK.lost(archive, heads)
+
+
+@pytest.mark.parametrize("kind", ADD)
+def test_a_head_that_only_a_desk_in_lost_has_recorded(folder: pathlib.Path, kind: str) -> None:
+    """The desk and the books of the day before are put back."""
+    its = line_of(folder / "L1", "a")
+    older = seal(its)
+    head = f"{kind}-{'0' * 32}"
+    desk_files.accept(its.desk, ["b", head])
+    change.restore(its, change.plan(its, older), audit)
+    (its.path / "untraced").mkdir()
+    assert books.lost(its) == [head]
+    assert [LACKED in fault for fault in books.faults_of(its)] == [True]
+    decided(its.sealed, head)
+    assert not books.faults_of(its)
 
 
 # --- With a desk
@@ -202,12 +221,15 @@ LOST: dict[str, Callable[[Line], None]] = {
 }
 
 
+def words_of(line: Line) -> dict[str, str]:
+    return {"line": line.name, "db": str(line.file), "port": str(line.port)}
+
+
 def set_up(line: Line) -> dict[str, str]:
     """The environment of tools that know the line by its set-up file."""
     folder = line.folder.parent / "set-up"
     folder.mkdir(exist_ok=True)
-    words = {"line": "L1", "db": line.file, "port": line.port}
-    text = "".join(f"{name} = {value}\n" for name, value in words.items())
+    text = "".join(f"{name} = {value}\n" for name, value in words_of(line).items())
     (folder / "L1.conf").write_text(text)
     return {"TRACEDESK_SET_UP": str(folder)}
 
@@ -253,22 +275,26 @@ def test_lost_rows_are_noticed_after_roll_overs(line: Line, how: str) -> None:
 
 @pytest.mark.parametrize("has_note", [True, False])
 def test_a_person_decides_about_rows_that_no_copy_has(line: Line, has_note: bool) -> None:
-    """The book of a mirror is older than its note, or both were gone."""
-    book, _ = untraced.BOOK.paths(line.archive)
-    older = book.read_bytes()
+    """The books of a mirror are older than their notes, or all were gone."""
+    given(line.archive, FIRST)
+    older = {path: text for path, text in taken(line).items() if path.suffix == ".csv"}
     refused(line.archive, 4)
+    given(line.archive, MENDED)
     sealed(line)
     if has_note:
-        book.write_bytes(older)
+        put(older)
     else:
         gone(line)
         ADD["untraced"](line.archive, 3)
+        given(line.archive, FIRST)
     line.rollover().expect()
     line.recall().expect(3, LACKED, "if none has it, call tracedesk-untraced decide lost")
+    asked(line).expect(3, "reels.csv: it ")  # by its note, or by what the desk has recorded
     person: list[Word] = ["--by", PERSON[0], "--became", "looked at", "--reason", "on paper"]
     untraced_tool(line, "decide", "lost", *person).expect()
     untraced_tool(line, "list").expect()
     line.recall(lot="L-3").expect()
+    asked(line).expect()
     sealed(line).expect()
     none = untraced_tool(line, "decide", "lost", *person)
     none.expect(3, "no row is lost that a desk has recorded")

@@ -12,7 +12,7 @@ import pathlib
 from collections.abc import Iterable, Sequence
 from typing import NamedTuple
 
-from tracedesk_ops import book, catalogue, files, heads, options, plant
+from tracedesk_ops import book, catalogue, files, options, plant
 
 FILE_NAME, NOTE = "reels.csv", "reels.json"
 ASKED = ("reel", "part", "lot", "date_code", "supplier", "maker_part", "order")
@@ -80,17 +80,6 @@ def read(archive: pathlib.Path) -> list[AttributeRow]:
     if found.fault:
         raise plant.Fault(found.fault)
     return found.values
-
-
-def rows_of(archive: pathlib.Path, recorded: Iterable[str]) -> tuple[list[AttributeRow], list[str]]:
-    """The rows of a line's book, and what is wrong with it: it is not as it was written, or lacks a
-    row whose head its desk has recorded.
-    """
-    found = BOOK.read(archive)
-    if found.fault:
-        return [], [found.fault]
-    is_lost = BOOK.lost(archive, recorded)
-    return found.values, [heads.lacked_by(archive / FILE_NAME)] if is_lost else []
 
 
 def newest(rows: Iterable[AttributeRow]) -> dict[str, Reel]:

@@ -1,9 +1,12 @@
 """The books next to a line's sealed files, untraced.csv and reels.csv, and their heads in its
 desk.
+
+    books.lacking(line, [attributes.BOOK])      # what is wrong if rows are lost
 """
 from __future__ import annotations
 
 import pathlib
+from collections.abc import Iterable, Iterator, Sequence
 from typing import Any
 
 from tracedesk_ops import around, attributes, book, files, heads, places, untraced
@@ -37,11 +40,45 @@ def record(archive: Path) -> bool:
     return True
 
 
+# --- What is lost
+
+
+def lost(
+    line: LineFolder, of: Sequence[book.Form[Any]] = BOOKS, recorded: Iterable[str] | None = None
+) -> list[str]:
+    """The heads that desks of the line have recorded of these books, and whose rows they lack, but
+    those about which somebody decided.
+    """
+    recorded = around.recorded_now(line) if recorded is None else [*recorded]
+    decided = untraced.decisions(untraced.rows_of(line.sealed)[0])
+    return [uid for its in of for uid in its.lost(line.sealed, recorded) if uid not in decided]
+
+
+def lacking(
+    line: LineFolder, of: Sequence[book.Form[Any]], recorded: Iterable[str] | None = None
+) -> Iterator[str]:
+    """What is wrong if rows of these books are lost: one is gone, was cut, or is another one."""
+    found = lost(line, of, recorded)
+    for its in of:
+        if any(uid.startswith(f"{its.kind}-") for uid in found):
+            yield (
+                f"{line.sealed / its.file}: it has not the row that the desk has recorded: it is an"
+                " older one, or was cut. Take it from a mirror; if none has it, call"
+                f" tracedesk-untraced decide {untraced.LOST}"
+            )
+
+
+def attributes_of(line: LineFolder) -> tuple[list[attributes.AttributeRow], list[str]]:
+    """The rows of reels.csv, and what is wrong with it."""
+    found = attributes.BOOK.read(line.sealed)
+    faults = [found.fault] if found.fault else [*lacking(line, [attributes.BOOK])]
+    return found.values if not found.fault else [], faults
+
+
 def faults_of(line: LineFolder) -> list[str]:
-    """Which rows the books lack whose heads a desk of the line has recorded."""
-    recorded = around.recorded(line)
-    _, of_reels = attributes.rows_of(line.sealed, recorded)
-    return [*untraced.missing(line.sealed, recorded), *of_reels]
+    """What is wrong with the books: they are not as they were written, or lack rows."""
+    damaged = [its.read(line.sealed).fault for its in BOOKS]
+    return [*filter(None, damaged), *lacking(line, BOOKS)]
 
 
 def stamps_of(archive: Path) -> list[tuple[int, int]]:

@@ -101,6 +101,7 @@ def look(asked: argparse.Namespace) -> int:
         hindrances = check.hindrances(line.desk, audit_of(asked))
         faults = [*found.faults, *(its.text() for its in found.lacked)]
         faults += check.chain_faults(asked.program, found)
+        faults += [] if hindrances else books.faults_of(line)
     if not told([*hindrances, *faults], NO):
         commands = sum(file.commands for file in found.chain)
         plant.write_out(f"{line.path}: sound, {len(found.chain)} files, {commands} commands\n")

@@ -16,9 +16,10 @@ from collections.abc import Callable, Iterator
 from typing import NamedTuple
 
 from tracedesk import records
-from tracedesk_ops import catalogue, files, heads, model, splices, untraced
+from tracedesk_ops import around, books, catalogue, files, model, splices, untraced
 from tracedesk_ops.firstlook import Question
 from tracedesk_ops.line import LineFolder
+from tracedesk_ops.sealed import FilesFault
 from tracedesk_ops.tapes import LOADED, DoubtfulPiece, Refusal, Tapes, Work
 
 Opener = Callable[[], contextlib.AbstractContextManager[sqlite3.Connection]]
@@ -55,7 +56,6 @@ def look(
     works = [it for it in untraced.refused(book.records) if untraced.is_work(it)]
     differing = untraced.differing(book.records)
     tapes = Tapes()
-    recorded: set[str] = set()  # a roll-over carries the newest head of a book alone
     pieces: list[DoubtfulPiece] = []
     faults: list[str] = []
     try:
@@ -63,14 +63,17 @@ def look(
         files: dict[str, Opener] = {
             it.file: functools.partial(catalogue.unchanged, folder, it) for it in archives
         }
-        recorded |= tell(tapes, files)
+        for name, opened in files.items():
+            with opened() as database:
+                tapes.read(name, database)
         tapes.judge(refusals_of(book.records, decided), map(work_of, works))
         pieces = [*placed(tapes, files), *told(tapes, works, differing, decided)]
         if question and question.within:
             pieces += splices.near(tapes, files, tapes.asked(question), question.within)
-    except (catalogue.CatalogueError, OSError, sqlite3.Error) as fault:
+        recorded = around.recorded(LineFolder(folder), [it.path for it in archives if it.path])
+        faults += books.lacking(LineFolder(folder), [untraced.BOOK], recorded)
+    except (catalogue.CatalogueError, FilesFault, OSError, sqlite3.Error) as fault:
         faults.append(f"{folder}: whether pieces may be of other reels isn't known: {fault}")
-    faults += untraced.missing(archive, recorded)
     return Doubts(
         [
             *((it, decided.get(it.id), tapes.reels_on(work_of(it))) for it in works),
@@ -80,16 +83,6 @@ def look(
         [*book.faults, *faults, *waiting(archive.with_name(model.STATUS))],
         tapes,
     )
-
-
-def tell(tapes: Tapes, files: dict[str, Opener]) -> set[str]:
-    """Has the files read, in the order of their chain; the heads of books that they recorded."""
-    recorded: set[str] = set()
-    for name, opened in files.items():
-        with opened() as database:
-            tapes.read(name, database)
-            recorded.update(heads.all_recorded_in(database))
-    return recorded
 
 
 def placed(tapes: Tapes, files: dict[str, Opener]) -> Iterator[DoubtfulPiece]:

@@ -7,7 +7,6 @@ from __future__ import annotations
 
 import http.client
 import json
-import pathlib
 import secrets
 import sqlite3
 from collections.abc import Iterable
@@ -51,14 +50,6 @@ def lost(kind: str, chains: Iterable[str], recorded: Iterable[str]) -> list[str]
     """
     wanted = {uid for uid in recorded if uid.startswith(f"{kind}-")}
     return sorted(wanted - {book_head(kind, chain) for chain in chains})
-
-
-def lacked_by(path: pathlib.Path) -> str:
-    """What is said of a book that lacks rows: it is gone, was cut, or is an older one."""
-    return (
-        f"{path}: it has not the row that the desk has recorded: it is an older one, or was cut."
-        " Take it from a mirror"
-    )
 
 
 def message(uid: str) -> str:

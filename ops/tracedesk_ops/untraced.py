@@ -21,7 +21,7 @@ from typing import Any, NamedTuple
 
 from tracedesk import records as sent
 from tracedesk.limits import LONGEST_INPUT
-from tracedesk_ops import book, catalogue, files, heads, inboxes, model
+from tracedesk_ops import book, catalogue, files, inboxes, model
 
 FILE_NAME, COLLECTED, STATUS = "untraced.csv", "collected.json", "untraced.json"
 HEADER = tuple(
@@ -263,23 +263,3 @@ def undecided(records: list[Record]) -> list[Record]:
     """The reports of work, and the boards whose reels differ, about which nobody decided."""
     decided, its = decisions(records), [*refused(records), *differing(records)]
     return [it for it in its if is_work(it) and it.id not in decided]
-
-
-def lost(archive: pathlib.Path, recorded: Iterable[str]) -> list[str]:
-    """The heads that desks have recorded of the line's file, and whose rows it lacks, but those
-    about which somebody decided. `recorded` has the heads in all files of their chains.
-    """
-    decided = decisions(rows_of(archive)[0])
-    return [uid for uid in BOOK.lost(archive, recorded) if uid not in decided]
-
-
-def missing(archive: pathlib.Path, recorded: Iterable[str]) -> list[str]:
-    """What is wrong if rows of the line's file are lost: it is gone, was cut, or is an older or
-    another one.
-    """
-    path = archive / FILE_NAME
-    try:
-        more = f"; if none has it, call tracedesk-untraced decide {LOST}"
-        return [f"{heads.lacked_by(path)}{more}"] if lost(archive, recorded) else []
-    except OSError as fault:
-        return [f"{path}: it can't be read: {fault}. Take it from a mirror"]

@@ -29,7 +29,7 @@ import csv
 import io
 import pathlib
 
-from tracedesk_ops import around, attributes, books, catalogue, collecting, options
+from tracedesk_ops import attributes, books, catalogue, collecting, options
 from tracedesk_ops import places, plant, reader_of
 from tracedesk_ops.line import LineFolder
 from tracedesk_ops.recalls import sets
@@ -70,9 +70,7 @@ def add(asked: argparse.Namespace) -> int:
 
 
 def show(asked: argparse.Namespace) -> int:
-    rows, faults = attributes.rows_of(
-        asked.archive, around.recorded(LineFolder(asked.archive.parent))
-    )
+    rows, faults = books.attributes_of(LineFolder(asked.archive.parent))
     newest = {row.its.reel: row for row in rows}
     found = [row for row in newest.values() if asked.terms.take(row.its)]
     table = [[*row.its, row.at, row.by] for row in found]

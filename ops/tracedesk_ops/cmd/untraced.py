@@ -22,8 +22,8 @@ attributes of reels out of their receipts, into reels.csv, and writes untraced.j
 `status` of the line, if it is there, for the station. ID may be the beginning of an id, if no other
 has it. A refused load, splice or unload has a record too, and needs no decision. If a recall names
 pieces as doubtful because of it, and nothing was placed from that reel, decide --became 'taken
-off'. If untraced.csv lacks a row, or a note of it or of reels.csv is gone, and no mirror has it,
-look for that work on paper, then decide lost: it takes the rows that are there for all.
+off'. If untraced.csv or reels.csv lacks a row, or its note is gone, and no mirror has it, look for
+that work on paper, then decide lost: it takes the rows that are there for all.
 
 --line     the line's name or folder, where several are set up
 --became   scrapped, reworked, used as it is, sent again, or words of your own; of a refused reel,
@@ -38,7 +38,7 @@ from __future__ import annotations
 import argparse
 import time
 
-from tracedesk_ops import around, books, catalogue, collecting, model, options, plant
+from tracedesk_ops import books, catalogue, collecting, model, options, plant
 from tracedesk_ops import reader_of, receipts, untraced
 from tracedesk_ops.line import LineFolder
 from tracedesk_ops.sealed import FilesFault
@@ -88,10 +88,8 @@ def tell_station(asked: argparse.Namespace, records: list[untraced.Record]) -> N
 
 def show(asked: argparse.Namespace) -> int:
     book = untraced.read(asked.archive)
-    faults = [
-        *book.faults,
-        *untraced.missing(asked.archive, around.recorded(LineFolder(asked.archive.parent))),
-    ]
+    line = LineFolder(asked.archive.parent)
+    faults = [*book.faults, *books.lacking(line, [untraced.BOOK])]
     decided, rows = untraced.decisions(book.records), []
     for it in book.records:
         if it.told["Kind"] != "decided" and (
@@ -125,7 +123,7 @@ def decide(asked: argparse.Namespace) -> int:
 def ids_of(asked: argparse.Namespace, records: list[untraced.Record]) -> list[str]:
     """About what somebody decides: the record whose id begins so, or each head of lost rows."""
     if asked.id == untraced.LOST:
-        return untraced.lost(asked.archive, around.recorded(LineFolder(asked.archive.parent)))
+        return books.lost(LineFolder(asked.archive.parent))
     known = [*untraced.refused(records), *untraced.differing(records)]
     ids = [it.id for it in known if it.id.startswith(asked.id)]
     if len(ids) != 1:

@@ -11,7 +11,7 @@ import sqlite3
 from collections.abc import Iterable, Iterator, Sequence
 from typing import NamedTuple
 
-from tracedesk_ops import around, attributes, catalogue, copies, heads, sealed, stored
+from tracedesk_ops import around, attributes, books, catalogue, copies, sealed, stored
 from tracedesk_ops.line import LineFolder
 from tracedesk_ops.firstlook import Line, Question
 
@@ -60,8 +60,7 @@ def terms_of(words: Iterable[str]) -> Terms:
 
 class Known:
     """What the files of all lines know of reels: `cards` has the parts and lots of each name, `old`
-    and `new` the names of each move, `books` the heads that desks have recorded of books, and
-    `faults` what could not be looked at.
+    and `new` the names of each move, and `faults` what could not be looked at.
     """
 
     def __init__(self, lines: Sequence[Line]) -> None:
@@ -70,14 +69,12 @@ class Known:
             set
         )  # by the beginning of UniqueIDs
         self.new: dict[str, set[str]] = collections.defaultdict(set)
-        self.books: dict[pathlib.Path, set[str]] = collections.defaultdict(set)  # by their folder
         self.faults: list[str] = []
         for line in lines:
             for file, is_running in files_of(line):
                 try:
                     with opened(file, is_running) as database:
                         self.read(database)
-                        self.books[line.folder].update(heads.all_recorded_in(database))
                 except (OSError, sqlite3.Error, catalogue.CatalogueError) as fault:
                     self.faults.append(f"{line.name}: the reels of {file} aren't known: {fault}")
 
@@ -187,7 +184,10 @@ def where(terms: Terms, known: Known, lines: Sequence[Line]) -> Meant:
     faults = list(known.faults)
     told: dict[str, attributes.Reel] = {}
     for line in lines:
-        rows, wrong = attributes.rows_of(LineFolder(line.folder).sealed, known.books[line.folder])
+        try:
+            rows, wrong = books.attributes_of(LineFolder(line.folder))
+        except sealed.FilesFault as fault:
+            rows, wrong = [], [str(fault)]
         told |= attributes.newest(rows)
         faults += wrong
     those = {reel: [its] for reel, its in told.items()}
