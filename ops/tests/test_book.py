@@ -15,8 +15,10 @@ from lab.killed import killed_at
 from lab.line import Line, NewLine, table
 from lab.records import a_record
 from lab.tools import Ended, Word, run_tool
-from tracedesk_ops import attributes, book, books, change, collecting, plant, untraced
+from tracedesk_ops import around, attributes, book, books, change, collecting, places, plant
+from tracedesk_ops import untraced
 from tracedesk_ops.attributes import Reel
+from tracedesk_ops.line import LineFolder
 
 pytestmark = pytest.mark.xdist_group("book")
 
@@ -178,6 +180,25 @@ def test_a_head_that_only_a_desk_in_lost_has_recorded(folder: pathlib.Path, kind
 
 
 # --- With a desk
+
+
+def test_no_other_desk_gets_a_head(
+    new_line: NewLine, folder: pathlib.Path, monkeypatch: pytest.MonkeyPatch
+) -> None:
+    """One that answers on the line's port, as by a set-up file that has changed, kept it for ever:
+    its own books lacked that row.
+    """
+    one, other = new_line(name="L1"), new_line(folder / "L2", name="L2")
+    for made in (one.archive, one.folder / "untraced"):
+        made.mkdir(exist_ok=True)
+    given(one.archive, FIRST)
+    for port, is_recorded in ((other.port, False), (one.port, True)):
+        one.port = port
+        monkeypatch.setattr(places, "files", lambda: [words_of(one)])
+        assert books.record(one.archive) == is_recorded
+    for line, count in ((one, 1), (other, 0)):
+        line.end()
+        assert len(around.recorded_now(LineFolder(line.folder))) == count
 
 
 @pytest.fixture

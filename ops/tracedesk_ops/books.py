@@ -6,15 +6,18 @@ desk.
 from __future__ import annotations
 
 import pathlib
+import sqlite3
 from collections.abc import Iterable, Iterator, Sequence
 from typing import Any
 
-from tracedesk_ops import around, attributes, book, files, heads, places, untraced
+from tracedesk_ops import around, attributes, book, copies, files, heads, places, plant
+from tracedesk_ops import sealed, untraced
 from tracedesk_ops.line import LineFolder
 
 Path = pathlib.Path
 
 BOOKS: tuple[book.Form[Any], ...] = (untraced.BOOK, attributes.BOOK)
+NEWEST = "SELECT uid FROM accepted ORDER BY number DESC LIMIT 1"
 
 
 def heads_of(archive: Path) -> list[str]:
@@ -31,13 +34,29 @@ def settle(archive: Path) -> bool:
 
 
 def record(archive: Path) -> bool:
-    """Lets the line's running desk record the heads of its books; whether it answers."""
+    """Lets the line's running desk record the heads of its books; whether it has them."""
+    uids = heads_of(archive)
     try:
-        for its in places.all_of(archive):
-            heads.give(its.port, heads_of(archive))
-    except heads.NoHead:
+        for its in places.all_of(archive) if uids else ():
+            heads.give(its.port, newest_command(its.db), uids)
+    except (heads.NoHead, OSError, sqlite3.Error, copies.InUse):
         return False
     return True
+
+
+def newest_command(desk: Path) -> str:
+    """The UniqueID of a command that a running desk has accepted: the newest one of its file, or of
+    its log if the file has none yet. A NoHead if there is none, or if nothing has the file open.
+    """
+    if plant.is_open(desk):
+        with sealed.opened(desk) as database:
+            rows = copies.rows(database, NEWEST)
+        if not rows:
+            with copies.opened(desk) as database:
+                rows = copies.rows(database, NEWEST)
+        for (uid,) in rows:
+            return str(uid)
+    raise heads.NoHead(f"{desk} doesn't run, or has accepted nothing")
 
 
 # --- What is lost

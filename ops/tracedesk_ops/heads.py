@@ -60,14 +60,6 @@ def message(uid: str) -> str:
 # --- A running desk
 
 
-def has_minute(port: int) -> bool:
-    """Whether the desk that runs on a port of this machine has accepted something. The first
-    command of one sets its minute.
-    """
-    asked = question(f"none-{secrets.token_hex(16)}", LAST_MINUTE)
-    return said(port, asked).get("Refusal") == "TooFarAhead"
-
-
 def question(uid: str, minute: int = 0) -> str:
     """A message that every desk refuses, and which tells whether it has accepted the UniqueID, or
     whether the minute is too far ahead of it: it unloads a slot that no sheet names.
@@ -76,15 +68,16 @@ def question(uid: str, minute: int = 0) -> str:
     return stored.line(uid, model.SOURCE, minute, "MaterialsUnloaded", body)
 
 
-def give(port: int, uids: list[str]) -> None:
-    """Gives heads to the desk that runs on a port of this machine, if it has a minute; a NoHead
-    says why it has not taken them.
+def give(port: int, known: str, uids: list[str]) -> None:
+    """Gives heads to the desk that runs on a port of this machine, if it has accepted a UniqueID of
+    the line's; a NoHead says why it has not taken them. No head is ever taken back.
     """
-    if uids and has_minute(port):
-        for uid in uids:
-            answer = said(port, message(uid))
-            if answer.get("Answer") != "Accepted":
-                raise NoHead(f"the desk on port {port} answers {uid} with {json.dumps(answer)}")
+    if said(port, question(known)).get("Refusal") != "IdReused":
+        raise NoHead(f"the desk on port {port} has not accepted {known}: it is another one")
+    for uid in uids:
+        answer = said(port, message(uid))
+        if answer.get("Answer") != "Accepted":
+            raise NoHead(f"the desk on port {port} answers {uid} with {json.dumps(answer)}")
 
 
 def said(port: int, text: str) -> dict[str, Any]:
