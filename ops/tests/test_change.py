@@ -122,6 +122,24 @@ def test_the_desk_of_the_plan_is_taken_off_and_no_other(folder: Path) -> None:
     assert uids(line.desk) == ["a", "b"] and not [*line.lost.iterdir()]
 
 
+def test_a_desk_that_a_service_makes_meanwhile_is_not_replaced(folder: Path) -> None:
+    """The desk was gone, and systemd starts its service again and again: that makes a new one."""
+    line = line_of(folder / "L1", "a")
+    older = seal(line)
+    line.desk.unlink()
+    its = change.plan(line, older)
+
+    def audited(file: Path) -> int:
+        files.desk(line.desk, ["acknowledged"])
+        return audit(file)
+
+    with pytest.raises(change.NotChanged, match="is there by now"):
+        change.restore(line, its, audited)
+    assert uids(line.desk) == ["acknowledged"]
+    restored(line, older)
+    assert uids(line.desk) == ["a"] and [uids(it) for it in lost_of(line)] == [["acknowledged"]]
+
+
 def test_a_desk_that_runs_is_not_restored(folder: Path) -> None:
     line = line_of(folder / "L1", "a")
     older = seal(line)

@@ -133,7 +133,7 @@ def restore(line: LineFolder, its: RestorePlan, audit: sealing.Audit) -> None:
         plant.without_log(new)
         files.keep(new)
         file = no_more_lost(line, its.file)
-        with kept_in_lost(line, its.taken_off, work):
+        with kept_in_lost(line, its.taken_off, work) if its.taken_off else no_desk(line):
             os.replace(new, line.desk)
             files.keep(line.path)
         sealing.drop_found(line, file)
@@ -152,9 +152,6 @@ def no_more_lost(line: LineFolder, file: Sealed) -> Sealed:
 @contextlib.contextmanager
 def kept_in_lost(line: LineFolder, name: str, work: Path) -> Iterator[None]:
     """Keeps the desk in lost/ by this name. No run can open it meanwhile, and none afterwards."""
-    if not name:
-        yield
-        return
     room = work / "lost"
     room.mkdir()
     copy = whole_copy(line.desk, room)
@@ -173,19 +170,28 @@ def kept_in_lost(line: LineFolder, name: str, work: Path) -> Iterator[None]:
         hold.let_go()
 
 
+@contextlib.contextmanager
+def no_desk(line: LineFolder) -> Iterator[None]:
+    """Looks whether a line has no desk yet: a service that runs makes one where there is none."""
+    if line.desk.exists():
+        raise NotChanged(f"{line.desk} is there by now: stop the line's service, and ask again")
+    yield
+
+
 def make(line: LineFolder, program: plant.Program) -> None:
     """Makes the first desk of a line: an empty one."""
-    if line.desk.exists() or line.sealed.is_dir() and sealed.paths_in(line.sealed):
-        raise NotChanged(f"{line.path} has a desk or sealed files: restore one of these")
     with line.changed(is_new=True) as work:
+        if line.desk.exists() or sealed.paths_in(line.sealed):
+            raise NotChanged(f"{line.path} has a desk or sealed files: restore one of these")
         new = work / "desk"
         done = program.run("feed", "--db", new, input="", capture_output=True, **plant.TEXT)
         if done.returncode:
             raise NotChanged(f"a desk can't be made in {line.path}: {done.stderr.strip()}")
         plant.without_log(new)
         files.keep(new)
-        os.replace(new, line.desk)
-        files.keep(line.path)
+        with no_desk(line):
+            os.replace(new, line.desk)
+            files.keep(line.path)
 
 
 def take_over(line: LineFolder, folder: Path, audit: sealing.Audit) -> Sealed:
@@ -215,8 +221,9 @@ def take_over(line: LineFolder, folder: Path, audit: sealing.Audit) -> Sealed:
         new = shutil.copyfile(made.path, work / "new")
         new.chmod(0o600)
         files.keep(new)
-        os.replace(new, line.desk)
-        files.keep(line.path)
+        with no_desk(line):
+            os.replace(new, line.desk)
+            files.keep(line.path)
         return made
 
 
