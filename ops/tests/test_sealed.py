@@ -182,6 +182,20 @@ def test_a_changed_file_is_named(folder: Path, what: str) -> None:
     assert str(made.path) in said(line)
 
 
+def test_the_newest_file_by_another_name_is_named_and_no_older_one_restored(folder: Path) -> None:
+    """As somebody keeps it aside, who then finds that the desk is gone."""
+    line = line_of(folder / "L1", "a")
+    seal(line)
+    newest = seal(line, "b").path
+    aside = newest.rename(newest.with_suffix(".desk.bak"))
+    line.desk.unlink()
+    assert str(aside) in said(line)
+    with pytest.raises(change.NotChanged, match="another file's name"):
+        change.chosen(line, "")
+    aside.rename(newest)
+    assert change.chosen(line, "").path == newest
+
+
 def test_a_log_next_to_a_sealed_file_is_refused_and_nothing_is_written(folder: Path) -> None:
     line = line_of(folder / "L1", "a")
     made = seal(line)

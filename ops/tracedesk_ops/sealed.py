@@ -87,9 +87,13 @@ def digits_of(path: Path) -> str:
 
 
 def paths_in(folder: Path) -> list[Path]:
-    """What is, or should be, a sealed file; a Damaged if the folder can't be read."""
+    """What is, or should be, a sealed file, so each desk by whatever name; a Damaged if the folder
+    can't be read.
+    """
     try:
-        return sorted(path for path in folder.iterdir() if path.suffix == SUFFIX)
+        return sorted(
+            path for path in folder.iterdir() if path.suffix == SUFFIX or copies.is_database(path)
+        )
     except OSError as fault:
         raise Damaged(f"{folder} can't be read: {fault.strerror}") from fault
 
