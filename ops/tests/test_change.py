@@ -122,6 +122,30 @@ def test_the_desk_of_the_plan_is_taken_off_and_no_other(folder: Path) -> None:
     assert uids(line.desk) == ["a", "b"] and not [*line.lost.iterdir()]
 
 
+@pytest.mark.parametrize("has_desk", [True, False], ids=["the desk is there", "no desk"])
+def test_what_other_files_have_has_to_be_sent_again_too(folder: Path, has_desk: bool) -> None:
+    """The desk was begun from a newer file, and has no command of its own; or there is none."""
+    line = line_of(folder / "L1", "a")
+    older = seal(line)
+    files.accept(line.desk, ["b", "c"])
+    rolled_over(line)
+    if not has_desk:
+        line.desk.unlink()
+    its = restored(line, older)
+    assert [(lacked.commands, lacked.source) for lacked in its.lacked] == [(2, "S")]
+    assert not its.faults
+
+
+def test_a_file_that_cant_be_read_may_have_what_has_to_be_sent_again(folder: Path) -> None:
+    line = line_of(folder / "L1", "a")
+    older, newer = seal(line), seal(line, "b")
+    newer.path.write_bytes(b"no database")
+    line.desk.unlink()
+    its = change.plan(line, older)
+    assert [str(newer.path) in fault for fault in its.faults] == [True]
+    assert f"isn't known: {its.faults[0]}" in its.text()
+
+
 def test_a_desk_that_a_service_makes_meanwhile_is_not_replaced(folder: Path) -> None:
     """The desk was gone, and systemd starts its service again and again: that makes a new one."""
     line = line_of(folder / "L1", "a")

@@ -39,7 +39,8 @@ class RestorePlan:
     file: Sealed
     taken_off: str  # the name that the desk gets in lost/; empty if there is none
     commands: int | None  # of that desk; none if it can't be read
-    lacked: list[Lacked]
+    lacked: list[Lacked]  # of that desk, and of all other files of the line
+    faults: list[str]  # why some of these can't be asked
     is_kept: bool = True  # in lost/: a desk is not, if the file has all of it
 
     def text(self) -> str:
@@ -55,6 +56,7 @@ class RestorePlan:
             f" {catalogue.spelled(its.since)}"
             for its in self.lacked
         ]
+        lines += [f"what has to be sent again isn't known: {fault}" for fault in self.faults]
         return "".join(f"{line}\n" for line in lines)
 
 
@@ -77,19 +79,21 @@ def plan(line: LineFolder, file: Sealed) -> RestorePlan:
     if plant.is_open(line.desk):
         raise NotChanged(f"a run has {line.desk} open: stop the line's service, and ask again")
     faults: list[str] = []
-    there = {its.digits: its for its in lineage.read_all(line.sealed, faults)}
-    behind = lineage.behind(file, there)
-    if not line.desk.exists():
-        return RestorePlan(file, "", None, [])
+    there, lost = (
+        lineage.read_all(folder, faults) if folder.is_dir() else []
+        for folder in (line.sealed, line.lost)
+    )
+    behind = lineage.behind(file, {its.digits: its for its in there})
+    name, desk = "", None
     with files.Room() as room:
-        desk = whole_copy(line.desk, Path(room))
-        try:
-            its = sealed.read(desk)
-            lacked = lineage.lacking(behind, [its])
-            is_kept = not lineage.is_held(its, file)
-            return RestorePlan(file, desk.name, its.commands, lacked, is_kept)
-        except sealed.Damaged:
-            return RestorePlan(file, desk.name, None, [])
+        if line.desk.exists():
+            copy = whole_copy(line.desk, Path(room))
+            name = copy.name
+            with contextlib.suppress(sealed.Damaged):
+                desk = sealed.read(copy)
+        lacked = lineage.lacking(behind, [*([desk] if desk else []), *there, *lost])
+        is_kept = not (desk and lineage.is_held(desk, file))
+        return RestorePlan(file, name, desk.commands if desk else None, lacked, faults, is_kept)
 
 
 def whole_copy(desk: Path, room: Path) -> Path:

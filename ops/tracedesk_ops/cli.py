@@ -115,7 +115,8 @@ def restore(asked: argparse.Namespace) -> int:
     if not asked.dry_run:
         change.restore(line, its, audit_of(asked))
     plant.write_out(its.text())
-    return SEE_TO_IT if its.lacked or its.taken_off and its.commands is None else DONE
+    is_known = not its.faults and not (its.taken_off and its.commands is None)
+    return DONE if is_known and not its.lacked else SEE_TO_IT
 
 
 def roll_over(asked: argparse.Namespace) -> int:

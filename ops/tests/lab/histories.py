@@ -180,7 +180,7 @@ class Histories(RuleBasedStateMachine):
         if not whole:
             return
         path, was = data.draw(st.sampled_from(whole), "file"), its.has
-        wanted = self.said([was]) - self.said(self.history(there[path]))
+        wanted = self.said([was, *there.values()]) - self.said(self.history(there[path]))
         plan = change.plan(self.line, sealed.read(path))
         assert sum(lacked.commands for lacked in plan.lacked) == len(wanted)
         self.known[plan.taken_off.removesuffix(sealed.SUFFIX)] = was
