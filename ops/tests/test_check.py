@@ -67,27 +67,16 @@ def test_damaged_bytes_never_end_otherwise_than_by_a_verdict(checked: Checked, n
 # --- Files that are no desk
 
 
-def test_what_is_no_database(checked: Checked) -> None:
-    checked.new(b"This is no database.\n")
-    checked.expect("not a database: ", "it begins with 'This is no data'")
-    checked.new(checked.whole[:100])
-    checked.expect("not a database: it has 100 bytes")
-    checked.file.unlink()
-    os.mkfifo(checked.file)
-    checked.expect("it is no file, but a folder, a pipe, a socket or a device")
-    checked.file.unlink()
-    checked.file.mkdir()
-    checked.expect("it is no file, but a folder")
-
-
-def test_no_file_and_one_without_bytes(checked: Checked) -> None:
-    checked.new(b"")
-    checked.expect("no file: it has no bytes")
+def test_what_is_no_desk(checked: Checked) -> None:
+    for content in (b"This is no database.\n", checked.whole[:100], b""):
+        checked.new(content)
+        checked.expect("not lawful: ", RESTORE)
     checked.log.write_bytes(bytes(5000))
-    checked.expect("not a database: it has no bytes, and desk-wal has 5,000")
-    checked.new()
+    checked.expect("not lawful: ", RESTORE)
     checked.file.unlink()
     checked.expect("no file: there is no ")
+    checked.file.mkdir()
+    checked.expect("no file: ", "is a folder, a pipe, a socket or a device")
 
 
 def test_another_program_that_has_the_file_open(checked: Checked) -> None:

@@ -7,6 +7,7 @@ import os
 import pathlib
 import shutil
 import signal
+import sqlite3
 import subprocess
 import sys
 from collections.abc import Callable, Iterator
@@ -62,8 +63,11 @@ def called(folder: Path, monkeypatch: pytest.MonkeyPatch) -> Called:
     """The same of a desk without rows of state, with a stand-in for the program."""
 
     def audit(_: plant.Program, file: Path) -> int:
-        with sealed.opened(file) as database:
-            return sealed.size(database, sealed.HISTORY)
+        try:
+            with sealed.opened(file) as database:
+                return sealed.size(database, sealed.HISTORY)
+        except sqlite3.Error as fault:
+            raise plant.Fault(str(fault)) from fault
 
     monkeypatch.setattr(plant.Program, "audit", audit)
     monkeypatch.setattr(plant, "chain_of", lambda _: "chain")

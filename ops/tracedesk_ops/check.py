@@ -25,16 +25,12 @@ def hindrances(desk: Path, audit: sealing.Audit) -> list[str]:
     file = str(desk)
     if nothing := outside.no_file(file):
         return [nothing.text()]
-    can_read = os.access(desk, os.R_OK, effective_ids=True)
-    if can_read:
+    if os.access(desk, os.R_OK, effective_ids=True):
         if others := [its.text() for its in outside.in_use(file)]:
             return others
         if plant.is_open(desk):
             return []
-    found = [*outside.outside(file)]
-    if can_read and (nothing := outside.no_database(file)):
-        found.append(nothing)
-    return [finding.text() for finding in found] or [*unlawful(desk, audit)]
+    return [its.text() for its in outside.outside(file)] or [*unlawful(desk, audit)]
 
 
 def want_one_name(desk: Path) -> None:

@@ -12,11 +12,9 @@ from typing import NamedTuple
 
 from tracedesk_ops import copies
 
-HEAD = 100  # bytes of a database's head
-SMALLEST = 512  # bytes of a page
 ROOM_OF_AN_OPENING = 65_536  # bytes that an opening may write to its log
 RIGHTS, NO_ROOM, OTHER_NAME, JOURNAL = "no permission", "no room", "another name", "half written"
-NO_FILE, NO_DATABASE, IN_USE = "no file", "not a database", "in use"
+NO_FILE, IN_USE = "no file", "in use"
 RESTORE = "restore the newest sealed file"
 REMEDIES = {  # by the cause
     RIGHTS: "give the file and its log back to the owner of their folder, by chown",
@@ -25,7 +23,6 @@ REMEDIES = {  # by the cause
     JOURNAL: f"delete neither of both: move them aside together, and {RESTORE}",
     IN_USE: "end it, as it ends otherwise",
     NO_FILE: f"is the name right, and is its disk there (findmnt)? Else {RESTORE}",
-    NO_DATABASE: f"is the name right? Else move it aside, look at the disk, and {RESTORE}",
 }
 
 
@@ -135,41 +132,6 @@ def outside(file: str) -> Iterator[Finding]:
         yield from (Finding(RIGHTS, it) for it in rights(file))
 
 
-def no_database(file: str) -> Finding | None:
-    """Why a file can't be a database, or none."""
-    size, log = os.stat(file).st_size, copies.log_of(pathlib.Path(file))
-    with open(file, "rb") as it:
-        head = it.read(HEAD)
-    if not size and log:
-        return Finding(
-            NO_DATABASE,
-            (
-                f"it has no bytes, and {log.name} has {os.stat(log).st_size:,}: copy the log before"
-                " anything else, since an opening empties it"
-            ),
-        )
-    if not size:
-        return Finding(
-            NO_FILE,
-            "it has no bytes: feed and serve make a new desk of it, all others say NotADesk",
-        )
-    if not copies.MAGIC.startswith(head[: len(copies.MAGIC)]):
-        return Finding(
-            NO_DATABASE,
-            f"it begins with {begins(head)!r}, and a database with {begins(copies.MAGIC)!r}",
-        )
-    return (
-        Finding(NO_DATABASE, f"it has {size:,} bytes, which is less than a page")
-        if size < SMALLEST
-        else None
-    )
-
-
-def begins(head: bytes) -> str:
-    """The first letters of a database's, or what stands there."""
-    return head[: len(copies.MAGIC) - 1].decode("ascii", "backslashreplace")
-
-
 def no_file(file: str) -> Finding | None:
     """What stands at the name in the place of a file, or none."""
     try:
@@ -182,5 +144,5 @@ def no_file(file: str) -> Finding | None:
     return (
         None
         if stat.S_ISREG(mode)
-        else Finding(NO_DATABASE, "it is no file, but a folder, a pipe, a socket or a device")
+        else Finding(NO_FILE, f"{file} is a folder, a pipe, a socket or a device")
     )
