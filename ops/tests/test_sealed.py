@@ -165,6 +165,20 @@ def test_work_of_any_source_is_lacking_and_the_same_name_with_another_text_too(
     assert lacked == [lineage.Lacked(lost, "S", 1, 3), lineage.Lacked(lost, "tracedesk", 1, 2)]
 
 
+def test_a_uniqueid_of_the_beginning_hides_no_command_before_it(folder: Path) -> None:
+    """Any sender may give it to a message of its own, also with the beginning's source."""
+    line = line_of(folder / "L1", "a")
+    rolled_over(line)
+    older = seal(line, "b")
+    files.accept(line.desk, ["lost"])
+    with files.opened(line.desk) as database:
+        forged = [4, f"begin-{older.begun}-4", "begin", 4, "PartDefined\tF"]
+        database.execute(files.INSERT, forged)
+    restored(line, older)
+    seal(line, "c")
+    assert sum(its.commands for its in lineage.of(line).lacked) == 2
+
+
 # --- Damage
 
 

@@ -6,7 +6,7 @@ from typing import Iterable, Optional
 import pytest
 from lab import files, messages
 from lab.records import refused
-from tracedesk_ops import catalogue, doubts, tapes, untraced
+from tracedesk_ops import catalogue, doubts, model, tapes, untraced
 from tracedesk_ops.firstlook import Question
 from tracedesk_ops.tapes import COUNT, LATE, REFUSED, DoubtfulPiece, Tapes
 
@@ -36,7 +36,7 @@ def placed(own: int, reel: str, effective: int = 0) -> Accepted:
 
 FIRST = (loaded(1, "R1"), placed(2, "R1"))
 SPLICE = ("MaterialsSpliced", "Expired")
-PLACED = "MaterialsInstalled\tM\tB\tC1"
+LOAD, PLACED = "MaterialsLoaded\tM\t1\tR1", "MaterialsInstalled\tM\tB\tC1"
 # what was refused in minute 5 of R2 on slot 1, what was accepted after FIRST, and the boards in
 # doubt, each with the reels that it may be of besides, and why
 STORIES: dict[str, tuple[Optional[tuple[str, str]], list[Accepted], list[tuple[str, str, str]]]] = {
@@ -119,8 +119,8 @@ def test_a_tape_goes_on_in_the_next_file() -> None:
             held.enter_context(contextlib.closing(sqlite3.connect(":memory:"))) for _ in range(2)
         )
         for file, rows in (
-            (older, [("u1", "s", "MaterialsLoaded\tM\t1\tR1")]),
-            (newer, [("begin-00-1", "begin", "MaterialsLoaded\tM\t1\tR1"), ("u2", "s", PLACED)]),
+            (older, [("u1", "s", LOAD)]),
+            (newer, [(model.first_uid("0" * 24), "begin", LOAD), ("u2", "s", PLACED)]),
         ):
             file.executescript(files.TABLES)
             for number, (uid, source, text) in enumerate(rows, 1):

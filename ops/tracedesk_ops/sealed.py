@@ -185,14 +185,18 @@ def begun_in(path: Path) -> str:
 
 
 def begun_with(database: sqlite3.Connection, digits: str, schema: str) -> int:
-    """How many commands a desk has from its beginning, with the UniqueIDs that it was told then:
-    the last one is the beginning's own, and has its number in its UniqueID.
+    """How many commands a desk has from its beginning: those that have its UniqueIDs, each with its
+    number, and the ClockSets between them. Behind another command nothing is of the beginning,
+    whatever UniqueID its sender gave it.
     """
     if not digits:
         return 0
-    query = f"""SELECT coalesce(max(number), 0) FROM {schema}.accepted
-        WHERE uid BETWEEN ?1 AND ?1 || ':' AND uid = ?1 || number
-        AND source = (SELECT source FROM {schema}.accepted WHERE number = 1)"""
+    query = f"""WITH own AS (SELECT number FROM {schema}.accepted
+            WHERE uid BETWEEN ?1 AND ?1 || ':' AND uid = ?1 || number
+            AND source = (SELECT source FROM {schema}.accepted WHERE number = 1))
+        SELECT coalesce(max(number), 0) FROM own WHERE number < coalesce(
+            (SELECT number FROM {schema}.accepted WHERE command <> 'ClockSet'
+            AND number NOT IN own ORDER BY number LIMIT 1), 1 << 60)"""
     return int(database.execute(query, [f"begin-{digits}-"]).fetchone()[0])
 
 

@@ -22,19 +22,17 @@ from __future__ import annotations
 
 import bisect
 import dataclasses
-import re
 import sqlite3
 from collections.abc import Iterable, Iterator, Sequence
 from typing import Any, NamedTuple
 
-from tracedesk_ops import catalogue, copies, untraced
+from tracedesk_ops import catalogue, copies, sealed, untraced
 from tracedesk_ops.firstlook import Question
 
 LOADED, SPLICED, UNLOADED = untraced.HANDLING
 INSTALLED, SCRAPPED = "MaterialsInstalled", "MaterialsScrapped"
-CARRIED = re.compile(r"begin-[0-9a-f]+-\d+")
 WORDS = (*untraced.HANDLING, INSTALLED, SCRAPPED)
-COMMANDS = f"""SELECT number, uid, source, own, effective,
+COMMANDS = f"""SELECT number, own, effective,
         iif(command GLOB '{INSTALLED}*', substr(command, 1, 90), command) FROM accepted
     WHERE {' OR '.join(f"command GLOB '{it}*'" for it in WORDS)} ORDER BY number"""
 # one scan of placement, in the order in which it lies
@@ -146,12 +144,13 @@ class Tapes:
         self.names.append(name)
         cards = copies.rows(database, "SELECT reel, part, lot FROM reel")
         self.cards.update((reel, (part, lot)) for reel, part, lot in cards)
-        for number, uid, source, own, effective, text in database.execute(COMMANDS):
+        begun = sealed.begun_with(database, sealed.begun_from(database), "main")
+        for number, own, effective, text in database.execute(COMMANDS):
             word, machine, *more = text.split("\t")
             told = ((place, number), own, effective)
             if word in (INSTALLED, SCRAPPED):
                 self.work(told, machine, more[0] if word == SCRAPPED else "")
-            elif source != "begin" or not CARRIED.fullmatch(uid):
+            elif number > begun:
                 self.handle(told, word, (machine, more[0]), more[1] if more[1:] else "")
 
     def tapes(self, on: Slot) -> list[Tape]:
