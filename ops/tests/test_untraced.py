@@ -4,11 +4,12 @@ import json
 import os
 import pathlib
 import random
+from typing import Any
 
 import pytest
 from lab.killed import killed_at
 from lab.records import a_record, boards, make_inbox
-from tracedesk_ops import catalogue, collecting, untraced
+from tracedesk_ops import catalogue, collecting, doubts, untraced
 
 ALL = ["B0", "B1", "B2"]
 REFUSED_AT = catalogue.spelled(5)
@@ -167,3 +168,29 @@ def test_a_link_or_a_pipe_in_the_inbox_is_no_record(archive: pathlib.Path) -> No
     assert len(collecting.collect(archive)[2]) == 2 and len(untraced.rows_of(archive)[0]) == len(
         ALL
     )
+
+
+# --- Senders
+
+OLD, LATE = "2026-03-02T06:00:00Z", "2999-03-02T06:00:00Z"
+STATUS = {"Sender": "m1", "Waiting": 3, "At": OLD, "OldestWaiting": OLD}
+SAID: dict[
+    str, tuple[Any, str]
+] = {  # what a sender's status has otherwise, or is, and what a recall says of it
+    "it died as its first message waited": ({}, "3 messages wait at m1 since 2026-03-02"),
+    "the clock was set back": ({"At": LATE, "OldestWaiting": "2999-03-02T05:00:00Z"}, "3 messages"),
+    "nothing waits": ({"OldestWaiting": None}, ""),
+    "it waits for less than a minute": ({"At": LATE, "OldestWaiting": LATE}, ""),
+    "half of it": (b'{"Sender":"m1","Wait', "can't be read"),
+    "another time": ({"OldestWaiting": "yesterday"}, "can't be read"),
+    "a list": (b"[7]", "can't be read"),
+}
+
+
+@pytest.mark.parametrize("name", SAID)
+def test_a_sender_may_hold_messages(folder: pathlib.Path, name: str) -> None:
+    its, said = SAID[name]
+    text = its if isinstance(its, bytes) else json.dumps({**STATUS, **its}).encode()
+    (folder / "m1.json").write_bytes(text)
+    (folder / ".m1.json").write_bytes(b"unfinished")
+    assert [said in fault for fault in doubts.waiting(folder)] == [True] * bool(said)

@@ -12,6 +12,7 @@ import functools
 import json
 import pathlib
 import sqlite3
+import time
 from collections.abc import Callable, Iterator
 from typing import NamedTuple
 
@@ -179,16 +180,30 @@ def work_of(record: untraced.Record) -> Work:
 
 
 def waiting(folder: pathlib.Path) -> Iterator[str]:
-    """Senders that hold messages for more than a minute, by what they say of themselves."""
-    for file in sorted(folder.glob("*.json")) if folder.is_dir() else ():
-        with contextlib.suppress(OSError, ValueError, TypeError, AttributeError, LookupError):
+    """Senders that hold messages for more than a minute, by what they say of themselves. One that
+    said so last and died holds them still.
+    """
+    for file in sorted(folder.glob("[!.]*.json")) if folder.is_dir() else ():
+        try:
             told = json.loads(records.shallow(files.read_plain(file, untraced.LONGEST)))
-            if not told.get("OldestWaiting"):
-                continue
-            since, now = minute_of(told["OldestWaiting"]), minute_of(told["At"])
-            if since is not None and now is not None and now - since > 1:
+            oldest = told.get("OldestWaiting")
+            now = time.time() // 60  # or later, if this machine's clock was set back
+            if oldest and max(now, minute_said(told["At"])) - minute_said(oldest) > 1:
                 yield (
-                    f"{file}: {told['Waiting']} messages wait at {told['Sender']} since"
-                    f" {told['OldestWaiting']}, and the desk doesn't have them: ask again once they"
-                    " are sent"
+                    f"{file}: {told['Waiting']} messages wait at {told['Sender']} since {oldest},"
+                    " and the desk doesn't have them: ask again once they are sent"
                 )
+        except FileNotFoundError:
+            continue
+        except (OSError, ValueError, TypeError, AttributeError, LookupError) as fault:
+            yield (
+                f"{file}: whether its sender holds messages can't be read: {fault!r}. Start that"
+                " sender, or take the file away if there is none"
+            )
+
+
+def minute_said(text: str) -> int:
+    """The minute of a time; a ValueError if it is none."""
+    if (minute := minute_of(text)) is None:
+        raise ValueError(f"{text} is no time")
+    return minute
