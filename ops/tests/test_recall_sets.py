@@ -11,7 +11,7 @@ from lab import files, messages, small
 from lab.line import Line, NewLine, table
 from lab.recalls import key_in, signers_of
 from lab.tools import Ended, Word, run_tool
-from tracedesk_ops import attributes, plant
+from tracedesk_ops import attributes, firstlook, plant
 from tracedesk_ops.recalls import sets
 
 pytestmark = pytest.mark.xdist_group("recall_sets")
@@ -136,6 +136,23 @@ def test_a_name_of_two_receipts_is_named(
     asked = sets.question_of(kind, names, "", [])
     assert asked.question.reels == ("K-1",) and not [it for it in asked.notes if "L-77" in it]
     assert asked.faults[0].startswith("the name K-1 is of CAP, lot L-77 and of CAP, lot L-99")
+
+
+def test_each_lines_book_tells_of_its_own_reel_of_a_name(folder: pathlib.Path) -> None:
+    """Two lines have a reel K-1 each, of two lots."""
+    lines, known = [firstlook.Line(name, folder / name) for name in ("L1", "L2")], sets.Known([])
+    known.cards["K-1"] = {attributes.Reel("K-1", "CAP", lot): None for lot in ("A", "B")}
+    for line, code in zip(lines, ("2614", "2609")):
+        for name in ("sealed", "untraced"):
+            (line.folder / name).mkdir(parents=True)
+        its = attributes.Reel("K-1", date_code=code)
+        attributes.add(line.folder / "sealed", [its], "2026-03-02T06:00:00Z", "erp")
+    for code, reels in (("2614", ("K-1",)), ("2609", ("K-1",)), ("2600", ())):
+        meant = sets.where(sets.terms_of([f"date_code={code}"]), known, lines)
+        assert meant.question.reels == reels
+        assert ["is of CAP, lot A and of CAP, lot B" in it for it in meant.faults] == [True] * len(
+            reels
+        )
 
 
 def test_a_later_row_takes_the_place_of_the_one_before(line: Line, book: pathlib.Path) -> None:

@@ -75,7 +75,7 @@ class Known:
                 try:
                     with opened(file, is_running) as database:
                         self.read(database)
-                except (OSError, sqlite3.Error, catalogue.CatalogueError) as fault:
+                except (OSError, sqlite3.Error, copies.InUse) as fault:
                     self.faults.append(f"{line.name}: the reels of {file} aren't known: {fault}")
 
     def read(self, database: sqlite3.Connection) -> None:
@@ -182,18 +182,18 @@ def where(terms: Terms, known: Known, lines: Sequence[Line]) -> Meant:
     one of them.
     """
     faults = list(known.faults)
-    told: dict[str, attributes.Reel] = {}
+    those: dict[str, list[attributes.Reel]] = {}  # by name: each line may have one
     for line in lines:
         try:
             rows, wrong = books.attributes_of(LineFolder(line.folder))
         except sealed.FilesFault as fault:
             rows, wrong = [], [str(fault)]
-        told |= attributes.newest(rows)
+        for reel, its in attributes.newest(rows).items():
+            those.setdefault(reel, []).append(its)
         faults += wrong
-    those = {reel: [its] for reel, its in told.items()}
     for reel, cards in known.cards.items():  # what a desk knows counts
-        its = [told.get(reel, card)._replace(part=card.part, lot=card.lot) for card in cards]
-        those[reel] = its
+        told = those.get(reel, [attributes.Reel(reel)])
+        those[reel] = [its._replace(part=it.part, lot=it.lot) for its in told for it in cards]
     lacking = sorted(reel for reel, its in those.items() if any(map(terms.lack, its)))
     if lacking:
         named = ", ".join(lacking[:MOST_NAMED])
