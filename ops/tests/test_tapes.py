@@ -136,6 +136,21 @@ def test_a_tape_goes_on_in_the_next_file() -> None:
         assert (piece.board, piece.file, piece.other_reels) == ("B", "newer", ("R2",))
 
 
+def test_a_name_that_came_again_is_of_each_of_its_lots() -> None:
+    """Reel R1 of lot L-R1 is spent, and a later file receives another one of its name."""
+    its, _ = told([], known=("R1", "R2"))
+    with contextlib.closing(sqlite3.connect(":memory:")) as newer:
+        newer.executescript(files.TABLES)
+        newer.execute("INSERT INTO reel VALUES ('R1', 'Q', 'N', '1', 0, 9, 0, 0, 9, 0, -1, 0)")
+        its.read("newer", newer)
+    for lot, part in (("L-R1", "P"), ("N", "Q")):
+        assert its.asked(Question("lot", lot, part)) == {"R1"}
+    piece = its.piece(("B", "C1", "M", "1", 5), "R1", ["R2"], "why")
+    assert (piece.lot, piece.parts) == ("L-R1; N", frozenset("PQ"))
+    for lot in ("L-R1", "N"):
+        assert its.concerning(Question("lot", lot), [piece]) == [piece]
+
+
 @pytest.mark.parametrize("name", STORIES)
 def test_the_pieces_of_a_tape_in_doubt(name: str) -> None:
     refusal, accepted, wanted = STORIES[name]

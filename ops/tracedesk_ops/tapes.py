@@ -129,7 +129,8 @@ class Tapes:
 
     def __init__(self) -> None:
         self.names: list[str] = []
-        self.cards: dict[str, tuple[str, str]] = {}  # of each reel the part and the lot
+        # the parts and lots of each name of a reel: a later file may have received it anew
+        self.cards: dict[str, dict[tuple[str, str], None]] = {}
         self.slots: dict[Slot, list[Tape]] = {}
         # of each slot what was told of it, each with the place of the tape before it
         self.handled: dict[Slot, list[tuple[Told, int]]] = {}
@@ -143,7 +144,8 @@ class Tapes:
         place = len(self.names)
         self.names.append(name)
         cards = copies.rows(database, "SELECT reel, part, lot FROM reel")
-        self.cards.update((reel, (part, lot)) for reel, part, lot in cards)
+        for reel, *card in cards:
+            self.cards.setdefault(reel, {})[card[0], card[1]] = None
         begun = sealed.begun_with(database, sealed.begun_from(database), "main")
         for number, own, effective, text in database.execute(COMMANDS):
             word, machine, *more = text.split("\t")
@@ -300,21 +302,27 @@ class Tapes:
         """A piece of a reel, if that is known, which may be of others."""
         others = tuple(sorted({*reels} - {reel, ""}))
         lots = tuple(sorted({self.lot(it) for it in others}))
-        parts = frozenset(self.part(it) for it in (*others, reel) if it) or frozenset([ANY])
+        parts = frozenset(it for its in (*others, reel) if its for it in self.parts(its))
+        parts = parts or frozenset([ANY])
         return DoubtfulPiece(*where, reel, self.lot(reel), others, lots, why, file, parts)
 
-    def part(self, reel: str) -> str:
-        return self.cards[reel][0] if reel in self.cards else ANY
+    def parts(self, reel: str) -> set[str]:
+        return {part for part, _ in self.cards.get(reel, {(ANY, ""): None})}
 
     def lot(self, reel: str) -> str:
-        return self.cards[reel][1] if reel in self.cards else ""
+        """The lot of a reel, or all that it may be of by its name."""
+        return "; ".join(sorted({lot for _, lot in self.cards.get(reel, ())}))
 
     def asked(self, question: Question) -> set[str]:
         """The reels that are asked for; all if a board is."""
         if question.kind == "board":
             return {*self.cards}
         named = {*question.names()} if question.kind != "lot" else set()
-        return named | {reel for reel, card in self.cards.items() if question.is_of(reel, *card)}
+        return named | {
+            reel
+            for reel, cards in self.cards.items()
+            if any(question.is_of(reel, *card) for card in cards)
+        }
 
     def concerning(
         self, question: Question, pieces: Iterable[DoubtfulPiece]
@@ -325,7 +333,7 @@ class Tapes:
         if question.kind == "board":
             return [it for it in pieces if it.board in (question.name, "")]
         asked = self.asked(question)
-        parts = {ANY, *map(self.part, asked)}
+        parts = {ANY}.union(*map(self.parts, asked))
         return [it for it in pieces if parts & it.parts or asked & {it.reel, *it.other_reels}]
 
     def reels_on(self, work: Work) -> str:
