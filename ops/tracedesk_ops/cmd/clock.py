@@ -15,7 +15,7 @@ examples:
 Nothing is sent unless the command of --synced prints yes: the desk takes the time from the message,
 and never goes back. The message is of this minute, and so is its UniqueID: sent twice within a
 minute it acts once. A desk that isn't there is no loss, since the next message has the time too.
-During a copy or a roll-over, when senders must come again, nothing is sent.
+During a roll-over, when senders must come again, nothing is sent.
 
 Exit status: 0 accepted, or senders must come again; 1 not accepted, or there was no answer; 2 bad
 command line; 3 nothing was sent, since this machine's clock is not in sync; 9 an unexpected

@@ -4,7 +4,7 @@ usage: tracedesk-verify FOLDER --signers FILE [--archives FOLDER].. [--program F
 
 examples:
   tracedesk-verify L-77 --signers plant.signers
-  tracedesk-verify L-77 --signers plant.signers --archives /var/lib/tracedesk/archive
+  tracedesk-verify L-77 --signers plant.signers --archives /var/lib/tracedesk/sealed
 
 FOLDER is what tracedesk-recall --evidence wrote. SHA256SUMS must have a signature by a key of FILE:
 nothing else is read before. Each file that it names must be there with its checksum, and no other.
