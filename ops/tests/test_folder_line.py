@@ -5,10 +5,10 @@ import pathlib
 import shutil
 from typing import Any
 
-from lab import messages
+from lab import ROOT, messages
 from lab.desk import log_into_file
 from lab.line import Line
-from lab.tools import Word, run_tool
+from lab.tools import Ended, Word, run, run_tool, tool
 from tracedesk_dev import begun
 from tracedesk_ops import plant, sealed, sealing
 from tracedesk_ops.line import LineFolder
@@ -85,19 +85,28 @@ def digits_of(line: Line) -> str:
     return sealed.digits_of(line.file)
 
 
+def taken_over(home: Path, program: Path) -> Ended:
+    """What the commands of docs/operations-install.md, "From 1.0.0", say in a folder of 1.0.0."""
+    page = (ROOT / "docs/operations-install.md").read_text(encoding="utf-8")
+    block = page.partition("### From 1.0.0")[2].partition("```sh\n")[2].partition("```")[0]
+    script = block.replace("/var/lib/tracedesk", str(home)).replace(" L1 ", f" {home} ")
+    apart = "systemctl() { :; }; chown() { :; }"  # there is no unit here, and no user tracedesk
+    ops = f'tracedesk-ops() {{ {tool("ops")} "$@" --program {program}; }}'
+    return run(["bash", "-euc", f"{apart}\n{ops}\n{script}"])
+
+
 def test_a_line_of_an_older_release_is_taken_over(line: Line, folder: Path) -> None:
+    """By the commands of the page, in place."""
     line.accept(*board("B1"))
-    older = older_release(line, folder / "old").parent.parent
+    home = older_release(line, folder / "home").parent.parent
     line.accept(*board("B2", 1))
     line.end()
     lawful = line.lawful()
     for path in line.paths():
-        shutil.copy(path, older / path.name)
-    new = folder / "L1"
-    new.mkdir()
+        shutil.copy(path, home / path.name)
+    taken_over(home, line.program).expect(0, "with 1 archives")
+    assert [*home.glob("1.0.0/archive/L1-*")] and not home.joinpath("archive").exists()
     words: list[Word] = ["--program", line.program]
-    made = run_tool("ops", "make", new, "--from", older, *words)
-    made.expect(0, "with 1 archives")
-    run_tool("ops", "check", new, *words).expect(0, "sound, 2 files")
-    audit = plant.Program(str(line.program), new).audit
-    assert sealing.seal(LineFolder(new), audit).commands == lawful
+    run_tool("ops", "check", home, *words).expect(0, "sound, 2 files")
+    audit = plant.Program(str(line.program), home).audit
+    assert sealing.seal(LineFolder(home), audit).commands == lawful
