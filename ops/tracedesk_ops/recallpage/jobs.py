@@ -226,12 +226,12 @@ class Queue:
 
     def add(self, asked: JobQuestion, shipped: bytes = b"") -> Job:
         """Puts a recall into the queue, whole or not at all. If the same one waits already, that is
-        taken in its place.
+        taken in its place; one that runs may have asked the desk before this moment.
         """
         waiting = self.waiting()
         questions = list(self.questions(waiting))
         for job, other in questions:
-            if other.same(asked):
+            if other.same(asked) and not job.is_running:
                 return job
         if len(waiting) >= MOST_WAITING:
             raise Full(f"{len(waiting)} recalls wait already. Come again later.")
