@@ -201,7 +201,7 @@ def line(machine: Machine) -> Iterator[str]:
     would ask for it too.
     """
     page = (ROOT / "docs/line-folder.md").read_text(encoding="utf-8")
-    script = page.split("```text\n")[1].split("```")[0].replace("L1", LINE)
+    script = page.split("```text\n")[1].split("```")[0]
     port = re.search(r"port = (\d+)", script)
     assert port
     machine.shell(script)
