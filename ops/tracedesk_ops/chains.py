@@ -36,7 +36,7 @@ OPTION = re.compile(
     ": differs (minute|slot|board .* in work old)"
 )  # what --at and --with-board-in-work make, and made --no-loads of 1.0.0
 FILE = re.compile(
-    r"[^:]*: (.*): (\d+) commands, last minute (\d+|none)(?:, begun from (.*))?; (\d+) to go"
+    r"[^:]*: .*: (\d+) commands, last minute (\d+|none)(?:, begun from (.*))?; \d+ to go"
 )
 CHECKED, PIECES = (
     "file,begun,commands,minute",
@@ -96,13 +96,13 @@ class Asker:
     def __init__(self, program: str, question: Iterable[str]) -> None:
         self.program, self.words = plant.chain_of(program), [*question, "--pieces"]
 
-    def ask(self, files: Files, digits: Digits, about: str) -> Answer:
+    def ask(self, files: Files, digits: Digits) -> Answer:
         """What it answers about files, from the oldest on; a NoAnswer or a Fault where it has no
         answer.
         """
         if not self.program:
             raise NoAnswer("there is no tracedesk-chain next to tracedesk: CHAIN names it")
-        return asked(self.program, self.words, files, digits, about)
+        return asked(self.program, self.words, files, digits)
 
 
 def asked(
@@ -110,23 +110,20 @@ def asked(
     words: list[str],
     files: Files,
     digits: Digits,
-    about: str = "",
     is_middle: bool = False,
 ) -> Answer:
     """What the program answers to these words about files, from the oldest on, that have these
     digits; the last may have none. A NoAnswer if there is none, a Fault if a file changes
-    meanwhile. Long runs are told about. With `is_middle` the first file may have been begun from
-    another, which isn't named.
+    meanwhile. With `is_middle` the first file may have been begun from another, which isn't named.
     """
     sizes = [os.stat(file).st_size for file in files]
     spans = parts.spans(sizes, parts.jobs(sizes))
-    progress = parts.Progress(about, sizes, len(spans))
 
     def of(span: parts.Span) -> Answer:
         first, end = span[0], span[1] + 1
         middle = ["--from-middle"] * (is_middle or first > 0)
         its = files[first:end], digits[first:end]
-        return in_turn(chain, words, middle, *its, progress)
+        return in_turn(chain, words, middle, *its)
 
     with concurrent.futures.ThreadPoolExecutor(len(spans)) as threads:
         return joined(spans, list(threads.map(of, spans)))
@@ -156,7 +153,6 @@ def in_turn(
     middle: list[str],
     files: Files,
     digits: Digits,
-    progress: parts.Progress,
 ) -> Answer:
     """What the program answers about files that it reads one after the other."""
     runs: list[tuple[int, Answer]] = []
@@ -164,7 +160,7 @@ def in_turn(
     first, last = 0, len(files)
     while first < len(files):
         try:
-            runs.append((first, asked_of(chain, [*words, *middle], files[first:last], progress)))
+            runs.append((first, asked_of(chain, [*words, *middle], files[first:last])))
             first, last, middle = last, len(files), ["--from-middle"]
         except NoAnswer as fault:
             if (
@@ -197,7 +193,7 @@ def want_links(files: Files, digits: Digits, ends: Sequence[End]) -> None:
             )
 
 
-def asked_of(chain: str, words: list[str], files: Files, progress: parts.Progress) -> Answer:
+def asked_of(chain: str, words: list[str], files: Files) -> Answer:
     """The same of files without such links."""
     run = plant.Program(chain, files[0])
     before = [state_of(it) for it in files]
@@ -206,36 +202,36 @@ def asked_of(chain: str, words: list[str], files: Files, progress: parts.Progres
         plant.want_room(room, sum(os.stat(it).st_size for it in files), what)
         run.give(room)
         copies = [copied(run, it, pathlib.Path(room, str(n))) for n, it in enumerate(files, 1)]
-        answer = said_of(run, words, copies, progress)
+        answer = said_of(run, words, copies)
     if changed := [it for it, then in zip(files, before) if state_of(it) != then]:
         raise plant.Fault(f"{changed[0]}: it was changed while it was asked: ask again")
     return answer
 
 
-def said_of(run: plant.Program, words: list[str], files: Files, progress: parts.Progress) -> Answer:
+def said_of(run: plant.Program, words: list[str], files: Files) -> Answer:
     """The answer, with the files' own names in its texts."""
     folders = re.compile("|".join(sorted({f"{re.escape(str(it.parent))}/" for it in files})))
     ends: list[End] = []
     errors: list[str] = []
     with tempfile.TemporaryFile("w+", newline="", **plant.TEXT) as out:
-        with subprocess.Popen(
+        done = subprocess.run(
             [*plant.LOW, run.program, *words, *files],
             stdin=subprocess.DEVNULL,
             stdout=out,
             stderr=subprocess.PIPE,
             **plant.TEXT,
             **run.how,
-        ) as running:
-            for line in running.stderr or ():
-                if found := FILE.fullmatch(line.strip()):
-                    minute = int(found[3]) if found[3] != "none" else 0
-                    ends.append(End(int(found[2]), minute, found[4] or ""))
-                    progress.of(os.stat(found[1]).st_size)
-                else:
-                    errors.append(folders.sub("", line.strip().partition(": ")[2]))
+        )
+        said: list[str] = done.stderr.split("\n")
+        for line in filter(None, said):
+            if found := FILE.fullmatch(line.strip()):
+                minute = int(found[2]) if found[2] != "none" else 0
+                ends.append(End(int(found[1]), minute, found[3] or ""))
+            else:
+                errors.append(folders.sub("", line.strip().partition(": ")[2]))
         out.seek(0)
         printed = list(records(out))
-    if status := running.returncode:
+    if status := done.returncode:
         raise NoAnswer("; ".join(errors) or f"it ended with status {status}", status, ends)
     header, *rows = [fields for fields, _ in printed] or [[]]
     if ",".join(header) != (CHECKED if words[0] == "check" else PIECES) or len(ends) != len(files):

@@ -4,7 +4,6 @@ from __future__ import annotations
 import argparse
 import datetime
 import pathlib
-import re
 
 import flask
 from werkzeug.exceptions import HTTPException
@@ -21,7 +20,6 @@ from tracedesk_ops.recallpage.jobs import (
     Queue,
 )
 from tracedesk_ops.recalls import sets
-from tracedesk_ops.recalls.wording import readable
 
 READER = "X-Reader"  # the header in which the proxy names the reader
 KIND_TEXTS = (
@@ -52,7 +50,6 @@ POLICY = "default-src 'none'; " + "; ".join(
         "frame-ancestors 'none'",
     )
 )
-PROGRESS = re.compile(r"(.*\d+ of \d+ files were read.*)")
 
 
 class NoQuestion(Exception):
@@ -169,11 +166,8 @@ class Site:
 
     def waiting(self, job: Job, title: str) -> str:
         before = self.queue.place(job)
-        read = [its[1] for its in map(PROGRESS.fullmatch, job.said.splitlines()) if its]
-        progress = readable(read[-1].partition(": ")[2]) if read else ""
         state = "The archives are being read." if job.is_running else f"{waits(before)}."
-        its = {"state": state, "progress": progress}
-        return pages.page(pages.WAIT, title, its, SECONDS_UNTIL_AGAIN)
+        return pages.page(pages.WAIT, title, {"state": state}, SECONDS_UNTIL_AGAIN)
 
     def download(self, name: str, file: str) -> flask.Response:
         job = self.job_of(name)

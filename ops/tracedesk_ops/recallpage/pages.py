@@ -147,7 +147,6 @@ JOB = f"<h1>Recall of {{{{ answer.title }}}}</h1>{ANSWER}{DOWNLOADS}{TABLES}{BAC
 WAIT = f"""
 <h1>Recall of {{{{ title }}}}</h1>
 <div class="wait" id="wait">{{{{ state }}}}</div>
-{{% if progress %}}<p id="progress">{{{{ progress }}}}</p>{{% endif %}}
 <p class="grey">This page renews itself. You may close it: the recall goes on, and its answer stays
 here.</p>{BACK}"""
 NOTHING = f"""

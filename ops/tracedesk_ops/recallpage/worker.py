@@ -13,7 +13,7 @@ import time
 from collections.abc import Sequence
 from typing import BinaryIO
 
-from tracedesk_ops import files, parts, plant
+from tracedesk_ops import files, plant
 from tracedesk_ops.recallpage import papers
 from tracedesk_ops.recallpage.jobs import (
     ASKED,
@@ -126,7 +126,6 @@ class Worker:
             stdin=subprocess.DEVNULL,
             stdout=subprocess.DEVNULL,
             stderr=said,
-            env={**os.environ, parts.SHOWN: "1"},
             preexec_fn=low,
             start_new_session=True,  # so that all of its programs end with it
         )

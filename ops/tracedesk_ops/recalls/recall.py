@@ -79,7 +79,6 @@ class Recall:
                     self.chain.ask,
                     [catalogue.path_of(line.folder, it) for it, _ in its],
                     [it.sha256[: model.DIGITS] for it, _ in its],
-                    f"{line.name}: ",
                 )
                 for line, its in waits.items()
                 if its
