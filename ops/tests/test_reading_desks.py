@@ -17,7 +17,7 @@ from lab.line import Line, NewLine
 from lab.messages import FIRST_LINE
 from lab.tools import Ended, Word, run, run_changed, tool
 from tracedesk_dev import begun
-from tracedesk_ops import catalogue, doubts, plant
+from tracedesk_ops import catalogue, doubts, plant, sealed
 
 TARGET = "/slots?machine=M"
 SLOTS_HEADER = "slot,position,reel,part,lot,remaining,minutes_left\n"
@@ -137,7 +137,7 @@ def test_one_archive_is_open_at_a_time(
     for number in range(4):
         file = shutil.copy(desk.file, archives / f"L1-{number}")
         rows.append(catalogue.Archive(file.name, "", "L1", 0, 0, 1))
-    counts, opened = [0], catalogue.opened
+    counts, opened = [0], sealed.opened
 
     @contextlib.contextmanager
     def counted(file: pathlib.Path) -> Iterator[sqlite3.Connection]:
@@ -146,6 +146,6 @@ def test_one_archive_is_open_at_a_time(
             yield database
         counts.append(counts[-1] - 1)
 
-    monkeypatch.setattr(catalogue, "opened", counted)
+    monkeypatch.setattr(sealed, "opened", counted)
     assert doubts.look(folder / "L1", rows).faults == []
     assert max(counts) == 1 and len(counts) > 2 * len(rows)

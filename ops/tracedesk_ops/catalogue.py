@@ -12,12 +12,10 @@ import os
 import pathlib
 import re
 import sqlite3
-import urllib.parse
 from collections.abc import Iterable, Iterator
 from typing import Any, NamedTuple
 
-from tracedesk_ops import copies
-from tracedesk_ops.files import sha256_of
+from tracedesk_ops import sealed
 from tracedesk_ops.line import LineFolder
 
 RUNNING = "running desk"  # in the place of an archive's name
@@ -64,30 +62,13 @@ def path_of(folder: pathlib.Path, archive: Archive) -> pathlib.Path:
     return archive.path or LineFolder(folder).sealed / archive.file
 
 
-def opened(file: str | os.PathLike[str]) -> contextlib.AbstractContextManager[sqlite3.Connection]:
-    """A file that stands whole, as a database. It is not written any more, so nothing is locked or
-    made beside it.
-    """
-    return copies.database(
-        f"file:{urllib.parse.quote(os.fsencode(file))}?mode=ro&immutable=1", uri=True
-    )
-
-
 @contextlib.contextmanager
-def unchanged(
-    folder: pathlib.Path, archive: Archive, checked: bool = False
-) -> Iterator[sqlite3.Connection]:
-    """A sealed file of a line's folder, as a database, with `checked` once it has its checksum; it
-    stops if the file changes meanwhile.
-    """
+def unchanged(folder: pathlib.Path, archive: Archive) -> Iterator[sqlite3.Connection]:
+    """A sealed file of a line's folder, as a database; it stops if the file changes meanwhile."""
     file = path_of(folder, archive)
     try:
         before = os.stat(file)
-        if checked and not sha256_of(file).startswith(archive.sha256):
-            raise CatalogueError(
-                f"{file}: it is not the file of its checksum: take it from a mirror"
-            )
-        with opened(file) as database:
+        with sealed.opened(file) as database:
             yield database
         after = os.stat(file)
     except OSError as fault:

@@ -110,18 +110,17 @@ def asked(
     words: list[str],
     files: Files,
     digits: Digits,
-    is_middle: bool = False,
 ) -> Answer:
     """What the program answers to these words about files, from the oldest on, that have these
     digits; the last may have none. A NoAnswer if there is none, a Fault if a file changes
-    meanwhile. With `is_middle` the first file may have been begun from another, which isn't named.
+    meanwhile.
     """
     sizes = [os.stat(file).st_size for file in files]
     spans = parts.spans(sizes, parts.jobs(sizes))
 
     def of(span: parts.Span) -> Answer:
         first, end = span[0], span[1] + 1
-        middle = ["--from-middle"] * (is_middle or first > 0)
+        middle = ["--from-middle"] * (first > 0)
         its = files[first:end], digits[first:end]
         return in_turn(chain, words, middle, *its)
 

@@ -11,7 +11,8 @@ from unittest import mock
 
 from lab.tools import Ended, run_tool
 from tracedesk import desk as desks
-from tracedesk_ops import around, catalogue, chains, collecting, doubts, files, firstlook, untraced
+from tracedesk_ops import around, catalogue, chains, collecting, doubts, files, firstlook, sealed
+from tracedesk_ops import untraced
 from tracedesk_ops.line import LineFolder
 from tracedesk_ops.firstlook import Line, Question
 from tracedesk_ops.recalls.recall import Recall
@@ -250,9 +251,9 @@ class Batch:
         print(f"--- {run.name}")
         with contextlib.ExitStack() as held:
             databases = {
-                name: held.enter_context(catalogue.opened(file)) for name, file in archives.items()
+                name: held.enter_context(sealed.opened(file)) for name, file in archives.items()
             }
-            desk = held.enter_context(catalogue.opened(self.room / catalogue.RUNNING))
+            desk = held.enter_context(sealed.opened(self.room / catalogue.RUNNING))
             databases[catalogue.RUNNING] = desk
             for name, database in databases.items():
                 for row in database.execute(COMMANDS_OF, [f"%{run.name}\t%"]):

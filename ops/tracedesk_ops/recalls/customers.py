@@ -5,7 +5,7 @@ import contextlib
 import sqlite3
 from collections.abc import Iterable
 
-from tracedesk_ops import catalogue, copies
+from tracedesk_ops import catalogue, copies, sealed
 from tracedesk_ops.recalls import certificate, evidence, tables, wording
 from tracedesk_ops.recalls.certificate import ProgramFile, bytes_of
 from tracedesk_ops.recalls.recall import Recall
@@ -31,7 +31,7 @@ def unknown(recall: Recall, serials: Iterable[str]) -> set[str]:
     for line in recall.lines:
         for archive in recall.files[line.name] if left else ():
             with contextlib.suppress(OSError, sqlite3.Error):
-                with catalogue.opened(catalogue.path_of(line.folder, archive)) as database:
+                with sealed.opened(catalogue.path_of(line.folder, archive)) as database:
                     left -= {its for its in left if copies.rows(database, KNOWN, its)}
     return left
 

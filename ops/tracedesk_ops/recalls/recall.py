@@ -8,16 +8,8 @@ import pathlib
 import sqlite3
 from typing import NamedTuple
 
-from tracedesk_ops import (
-    around,
-    catalogue,
-    chains,
-    doubts,
-    firstlook,
-    model,
-    plant,
-    untraced,
-)
+from tracedesk_ops import around, catalogue, chains, doubts, firstlook, model, plant, sealed
+from tracedesk_ops import untraced
 from tracedesk_ops.firstlook import Line, Piece, Question, ReelLeft, Told
 from tracedesk_ops.line import LineFolder
 
@@ -167,7 +159,7 @@ class Recall:
         """Takes what is left of the lot or reel by the newest file."""
         minute = None if newest.file == RUNNING else newest.last_minute
         try:
-            with catalogue.opened(catalogue.path_of(line.folder, newest)) as database:
+            with sealed.opened(catalogue.path_of(line.folder, newest)) as database:
                 self.reels += firstlook.left_in(database, line, self.question, minute)
         except sqlite3.Error as fault:
             self.faults.append(f"{line.name}: {newest.file}: {fault}")

@@ -148,7 +148,7 @@ def files_of(line: Line) -> Iterator[tuple[pathlib.Path, bool]]:
 def opened(file: pathlib.Path, is_running: bool) -> Iterator[sqlite3.Connection]:
     with contextlib.ExitStack() as held:
         desk = held.enter_context(around.desk_now(file)) if is_running else None
-        yield held.enter_context(catalogue.opened(desk.path if desk else file))
+        yield held.enter_context(sealed.opened(desk.path if desk else file))
 
 
 def title(kind: str, names: Sequence[str], part: str) -> str:
