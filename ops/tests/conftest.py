@@ -9,7 +9,7 @@ import pytest
 pytest.register_assert_rewrite("lab")
 
 from lab import installed as installations, line as lines  # noqa: E402
-from lab import messages, world as worlds  # noqa: E402
+from lab import messages, small, world as worlds  # noqa: E402
 from lab.checked import Checked  # noqa: E402
 from lab.desk import Desk  # noqa: E402
 from lab.installed import Installed  # noqa: E402
@@ -72,6 +72,19 @@ def new_line(program: pathlib.Path, folder: pathlib.Path) -> Iterator[NewLine]:
 def line(new_line: NewLine) -> Line:
     """Line L1, served, whose reel K1 of lot L1 is on slot 1 of machine M."""
     return new_line()
+
+
+@pytest.fixture(scope="module")
+def small_line(program: pathlib.Path, tmp_path_factory: pytest.TempPathFactory) -> Iterator[Line]:
+    """The small line of lab/small.py, served. Tests of a module leave it as it is."""
+    made = Line(program, tmp_path_factory.mktemp("small") / "line")
+    made.feed([])
+    made.serve()
+    try:
+        small.begin(made)
+        yield made
+    finally:
+        made.end()
 
 
 @pytest.fixture(scope="session")

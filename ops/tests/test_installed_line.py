@@ -8,7 +8,6 @@ from lab.waits import wait_for
 pytestmark = [pytest.mark.root, pytest.mark.xdist_group("machine")]
 
 LOT = "tracedesk-recall lot L-77 --line L1 /var/lib/tracedesk"
-REPORT = "/trace/lot?lot=L-77&detail=4"
 CLOCK_RUNS = r"""
 at_unit=/run/systemd/system/tracedesk-clock@.service.d; mkdir -p $at_unit
 printf '[Service]\nExecStart=\nExecStart=/bin/true\n' > $at_unit/none.conf
@@ -71,18 +70,6 @@ def test_a_restore_brings_a_desk_back(machine: Machine) -> None:
 
 
 # --- Recalls
-
-
-def test_a_recall_is_the_reports_of_all_files(machine: Machine) -> None:
-    files = archives_of(machine, 3)
-    said = machine.shell(f"{LOT} --show pieces 2> /dev/null")
-    # a sealed file is read-only, and tracedesk opens a file to write: so it gets a copy
-    report = "cp {}/{} /root/its.desk; tracedesk report --db /root/its.desk --get '{}' || true"
-    texts = [machine.shell(report.format(ARCHIVE, file, REPORT)) for file in files]
-    texts.append(machine.shell(f"curl -sS 'http://127.0.0.1:8080{REPORT}'"))
-    own = [line for text in texts for line in text.splitlines() if line.startswith("SN-")]
-    told = sorted(line.split(",")[:2] for line in rows_in(said)[1:])
-    assert told and told == sorted(line.split(",")[:2] for line in own)
 
 
 def test_postgresql_prints_what_a_recall_prints(machine: Machine) -> None:

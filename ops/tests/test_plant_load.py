@@ -166,34 +166,6 @@ def test_a_line_that_was_mistyped_is_dropped(line: WorkedLine, database: Databas
     expect_three(database)
 
 
-# what is expected of lines, what takes it back, and what is said
-EXPECTED = {
-    "a line that was never loaded": (
-        "INSERT INTO line VALUES ('L7')",
-        "DELETE FROM line WHERE name = 'L7'",
-        "without L7 all of it: no file",
-    ),
-    "a newer copy": (
-        "UPDATE line SET oldest = '1 day'",
-        "UPDATE line SET oldest = '100 years'",
-        "without L1 newer pieces: the newest copy of its running desk is of 2026-",
-    ),
-}
-
-
-@pytest.mark.parametrize("name", EXPECTED)
-def test_what_is_expected_of_lines(
-    line: WorkedLine, database: Database, wanted: Wanted, name: str
-) -> None:
-    change, back, said = EXPECTED[name]
-    database.load(line.kept()[-1])
-    database.query("pieces", lot=wanted.lot)
-    database.change(change)
-    assert said in database.query("pieces", 3, lot=wanted.lot).said
-    database.change(back)
-    database.query("pieces", lot=wanted.lot)
-
-
 def test_lines_of_the_set_up_are_loaded_and_one_without_a_sealed_file_is_missing(
     line: WorkedLine, database: Database, folder: pathlib.Path
 ) -> None:
@@ -203,43 +175,6 @@ def test_lines_of_the_set_up_are_loaded_and_one_without_a_sealed_file_is_missing
     said = database.load(status=1, TRACEDESK_SET_UP=str(folder))
     assert said.count(" pieces\n") == 3
     assert {row for row in database.rows("SELECT line FROM missing")} == {("L8",)}
-
-
-def test_a_copy_of_other_days_is_stale(line: WorkedLine, server: postgres.Server) -> None:
-    """If nobody says how old it may be."""
-    made = databases.create(server, "stale", schema="")
-    made.psql("-f", SQL / "schema.sql")
-    made.load(line.kept()[-1])
-    said = made.query("pieces", 3, lot="any").said
-    assert "without L1 newer pieces: the newest copy of its running desk is of 2026-03" in said
-
-
-@pytest.mark.whole
-def test_tables_that_were_put_back_to_an_older_state_are_named(line: WorkedLine) -> None:
-    """A reader who saw the newer state knows it, until all is loaded again and the reader says
-    so.
-    """
-    with databases.server() as server:
-        made = databases.create(server, "put_back")
-        made.load(line.kept()[0])
-        ((lot,),) = made.rows(MANY)
-        made.query("recall", lot=lot)
-        server.stop()
-        server.copy("data", "dump")
-        server.start()
-        made.load(line.kept()[-1])
-        newer = made.query("recall", lot=lot).rows
-        server.stop()
-        server.copy("dump", "data")
-        server.start()
-        for name in ("recall", "pieces", "recall"):
-            assert (
-                "in an older state than at the last question" in made.query(name, 3, lot=lot).said
-            )
-        made.load(line.kept()[-1])
-        made.query("recall", 3, lot=lot)
-        pathlib.Path(made.environment["TRACEDESK_SEEN"]).unlink()
-        assert made.query("recall", lot=lot).rows == newer
 
 
 # --- Files that are taken out
@@ -317,18 +252,6 @@ def test_a_load_that_is_killed_leaves_whole_files_alone(
     assert wanted.expect_files(database) == STEPS[step]
     if database.rows("SELECT FROM reel LIMIT 1"):
         database.query("pieces", 3, lot=wanted.lot)
-    database.load(line.kept()[-1])
-    wanted.expect_all(database)
-
-
-@pytest.mark.whole
-def test_loads_that_are_killed_at_each_file_end_whole(
-    line: WorkedLine, database: Database, wanted: Wanted
-) -> None:
-    for number in range(len(wanted.files)):
-        for step in ("rows of placement", "committed"):
-            kill(line, database, step)
-            assert wanted.expect_files(database) == number + STEPS[step]
     database.load(line.kept()[-1])
     wanted.expect_all(database)
 

@@ -5,8 +5,6 @@ from __future__ import annotations
 
 import collections
 import contextlib
-import os
-import signal
 from concurrent.futures import ThreadPoolExecutor
 from typing import Any, Iterator
 
@@ -206,27 +204,10 @@ def test_a_plant_that_is_down(several: Several) -> None:
     several.expect_all()
 
 
-def test_a_plant_that_is_frozen(several: Several) -> None:
-    pid = int((several.plants["cork"].server.data / "postmaster.pid").read_text().split()[0])
-    os.kill(pid, signal.SIGSTOP)
-    try:
-        with several.limits(connect=2):
-            several.expect_without("cork", "timeout expired")
-    finally:
-        os.kill(pid, signal.SIGCONT)
-    several.expect_all()
-
-
 def test_a_plant_whose_tables_are_locked(several: Several) -> None:
     with several.limits(answer=2), session(several.plants["cork"], "LOCK TABLE reel"):
         several.expect_without("cork", "canceling statement due to statement timeout")
     several.expect_all()
-
-
-def test_a_plant_that_hangs_amid_its_answer_is_an_error(several: Several) -> None:
-    with several.limits(answer=2), session(several.plants["cork"], "LOCK TABLE placement_1"):
-        told = several.ask(status=3)
-    assert told.rows == [] and "canceling statement due to statement timeout" in told.said
 
 
 def test_a_plant_that_ends_amid_its_answer_is_an_error(several: Several) -> None:
@@ -237,14 +218,6 @@ def test_a_plant_that_ends_amid_its_answer_is_an_error(several: Several) -> None
         databases.stop(cork.server)
         assert asking.result().rows == []
     cork.server.start()
-    several.expect_all()
-
-
-def test_a_password_that_is_wrong(several: Several) -> None:
-    change = "ALTER USER MAPPING FOR PUBLIC SERVER cork OPTIONS (SET password '{}')"
-    several.database.psql("-c", change.format("other"))
-    several.expect_without("cork", "password authentication failed")
-    several.database.psql("-c", change.format(databases.PASSWORD))
     several.expect_all()
 
 
@@ -272,45 +245,9 @@ def test_a_plant_without_the_views_is_not_added(several: Several) -> None:
     several.expect_all()
 
 
-# --- What a plant lacks
-
-# what is changed, what takes it back, and what is said
-LACKS = {
-    "a file": (
-        "INSERT INTO lacking VALUES ('L1', 'archive-7', 'its checksum')",
-        "DELETE FROM lacking",
-        "brno: without L1 archive-7: its checksum",
-    ),
-    "a newer file": (
-        "UPDATE line SET oldest = '-1 day'",
-        "UPDATE line SET oldest = '1 day'",
-        "brno: without L1 newer pieces",
-    ),
-    "a piece in doubt": (
-        (
-            "INSERT INTO doubtful VALUES ('L1', 'B8', 'C1', 'M', '1', 5, 'R9', 'NEW', '{S1}',"
-            " '{OTHER}', 'late', 'archive-1', '{P}')"
-        ),
-        "DELETE FROM doubtful",
-        "brno: doubtful piece of L1: C1 of board B8, 1970-01-01T00:05:00Z, may not be of R9",
-    ),
-}
-
-
-@pytest.mark.parametrize("name", LACKS)
-def test_what_a_plant_lacks_is_named(several: Several, name: str) -> None:
-    change, back, said = LACKS[name]
-    several.plants["brno"].change(change)
+def test_what_a_plant_lacks_is_named(several: Several) -> None:
+    several.plants["brno"].change("INSERT INTO lacking VALUES ('L1', 'archive-7', 'its checksum')")
     told = several.ask(status=3).said
-    several.plants["brno"].change(back)
-    assert said in told
+    several.plants["brno"].change("DELETE FROM lacking")
+    assert "brno: without L1 archive-7: its checksum" in told
     several.ask()
-
-
-def test_a_plant_in_an_older_state_is_named(several: Several) -> None:
-    several.plants["cork"].change("INSERT INTO state DEFAULT VALUES")
-    several.ask()
-    newest = "number = (SELECT max(number) FROM state)"
-    several.plants["cork"].change(f"DELETE FROM state WHERE {newest}")
-    said = several.ask(status=3).said
-    assert "older state than at the last question: cork" in said

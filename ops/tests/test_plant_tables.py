@@ -9,7 +9,6 @@ from typing import Iterator
 import pytest
 from lab import databases
 from lab.databases import Database
-from lab.plants import missing
 
 pytestmark = [pytest.mark.xdist_group("plant_tables")]
 
@@ -118,16 +117,3 @@ def test_tables_of_1_0_0_are_refused(database: Database) -> None:
     its = "FUNCTION plant.spelled(bigint) RETURNS text LANGUAGE sql AS 'SELECT null'"
     old.psql("-c", f"CREATE SCHEMA plant; CREATE {its}")
     assert "these are tables of 1.0.0" in old.query("schema", 3).said
-
-
-def test_a_file_of_a_mistyped_line_is_taken_out(database: Database) -> None:
-    database.change(
-        "INSERT INTO line VALUES ('L11');"
-        f"INSERT INTO file VALUES (3, 'L11', 'running desk', 'e', 1, 9, 4, {NOW});"
-        "CREATE TABLE placement_3 PARTITION OF placement FOR VALUES IN (3)"
-    )
-    ask(database)
-    database.drop(line="L11", name="running desk")
-    assert missing(database) == ["all of it", "newer pieces"]
-    database.change("DELETE FROM line WHERE name = 'L11'")
-    assert missing(database) == []

@@ -2,10 +2,8 @@
 from __future__ import annotations
 
 import pathlib
-from typing import Iterator
 
 import pytest
-from lab import small
 from lab.line import Line, table
 from lab.recalls import key_in, signers_of
 from lab.tools import Ended, Word, run_tool
@@ -20,15 +18,8 @@ SN-2,Customer B,2026-03-09
 
 
 @pytest.fixture(scope="module")
-def line(program: pathlib.Path, tmp_path_factory: pytest.TempPathFactory) -> Iterator[Line]:
-    made = Line(program, tmp_path_factory.mktemp("small") / "line")
-    made.feed([])
-    made.serve()
-    try:
-        small.begin(made)
-        yield made
-    finally:
-        made.end()
+def line(small_line: Line) -> Line:
+    return small_line
 
 
 def recall(line: Line, folder: pathlib.Path, shipped: str, *more: Word) -> Ended:

@@ -21,29 +21,14 @@ Change = Callable[[pathlib.Path], object]
 def another_byte(file: pathlib.Path) -> None:
     content = bytearray(file.read_bytes())
     content[len(content) // 2] ^= 1
-    rewritten(file, bytes(content))
-
-
-def cut_short(file: pathlib.Path) -> None:
-    rewritten(file, file.read_bytes()[:-4096])
-
-
-def rewritten(file: pathlib.Path, content: bytes) -> None:
     file.unlink()
     file.write_bytes(content)
-
-
-def with_a_log(file: pathlib.Path) -> None:
-    file.with_name(f"{file.name}-wal").write_bytes(bytes(5_000))
 
 
 # what is altered: how, and what is said
 FAULTS: dict[str, tuple[Change, str]] = {
     "another byte": (another_byte, "was changed, or has another file's name"),
-    "cut short": (cut_short, "was changed, or has another file's name"),
     "missing": (lambda file: file.unlink(), "is missing, from which"),
-    "a log": (with_a_log, "can't be read with"),
-    "no database": (lambda file: rewritten(file, b"no database"), "was changed"),
 }
 
 
@@ -128,12 +113,6 @@ def test_a_desk_that_does_not_run_is_named(world: World, folder: pathlib.Path) -
     words: list[Word] = ["--line", "L1", folder / "L1"]
     said = (f"no desk of this machine has {folder / 'L1/desk'} open", "is missing, from which")
     recall("lot", lot_of(world), *words).expect(3, *said)
-
-
-def test_a_line_without_a_desk_is_never_whole(world: World, folder: pathlib.Path) -> None:
-    words = copied(world.first, folder / "L1")
-    said = f"has no desk: pieces that came after {world.first.archived[-1].name}"
-    recall("lot", lot_of(world), *words).expect(3, said)
 
 
 def test_a_folder_of_two_lines_is_refused(world: World) -> None:

@@ -1,4 +1,4 @@
-"""Recalls of young lines, and what roll-overs and restores leave around a line's archives."""
+"""Recalls of young lines."""
 import pathlib
 import shutil
 from typing import Iterator
@@ -6,17 +6,13 @@ from typing import Iterator
 import pytest
 from lab import messages
 from lab.desk import rows_of_archive
-from lab.recalls import Rows, files_of, last_minute, lot_of, recall, recalled
+from lab.recalls import Rows, files_of, last_minute, recall, recalled
 from lab.tools import Word
-from lab.world import RUNNING, ArchivedLine, World
-from lab.files import opened
+from lab.world import RUNNING, ArchivedLine
 from tracedesk_dev import shift
-from tracedesk_ops import sealed
 
 pytestmark = [pytest.mark.xdist_group("recall_lines")]
 
-LATER = """INSERT INTO accepted SELECT max(number) + 1, 'lost', 'S', 0, max(effective),
-    'PartDefined' || char(9) || 'LOST', '{}' FROM accepted"""
 
 # a lot with few pieces, and a reel of it that is on a machine
 MOUNTED = """SELECT lot, reel, machine FROM mount JOIN reel USING (reel)
@@ -99,67 +95,3 @@ def test_without_the_desks_file_the_newest_archive_says_what_is_left(
 def test_a_folder_that_may_not_be_mounted_is_named(young: Young) -> None:
     done = recall("lot", young.lot, "--line", "L1", young.line.folder / "no")
     done.expect(3, "there is no such folder")
-
-
-# --- What lies around the folder of a line's archives
-
-
-class Around:
-    """A copy of the first line's archives in a folder, around which something lies."""
-
-    def __init__(self, world: World, folder: pathlib.Path) -> None:
-        self.line, self.folder, self.lot = world.first, folder / "around", lot_of(world)
-        self.archive = shutil.copytree(world.first.archive, self.folder / "sealed")
-
-    def words(self) -> list[Word]:
-        return ["lot", self.lot, "--line", "L1", self.folder]
-
-    def expect(self, status: int, *said: str) -> str:
-        return recall(*self.words()).expect(status, *said).said
-
-    def link(self, line: ArchivedLine) -> None:
-        """Puts a desk's file beside the archives, as far as a recall sees."""
-        for path in line.paths():
-            (self.folder / path.name).symlink_to(path)
-
-
-@pytest.fixture
-def around(world: World, folder: pathlib.Path) -> Around:
-    return Around(world, folder)
-
-
-@pytest.fixture
-def whole(around: Around) -> Around:
-    """With the running desk's file, so that all is asked."""
-    around.link(around.line)
-    around.expect(0)
-    return around
-
-
-def test_a_desks_file_that_is_elsewhere_is_named(around: Around) -> None:
-    around.expect(3, f"{around.folder} has no desk")
-
-
-def test_a_copy_of_the_desks_file_is_named(around: Around, folder: pathlib.Path) -> None:
-    """Nobody keeps a copy up to date."""
-    copy = ArchivedLine(around.line.program, folder / "copy", "L1")
-    for path in around.line.paths():
-        shutil.copy(path, copy.folder / path.name)
-    around.link(copy)
-    around.expect(3, "no desk of this machine has")
-
-
-def test_a_desk_that_a_restore_took_off_is_named_if_it_has_more(whole: Around) -> None:
-    """One that can't be read may have more."""
-    lost = whole.folder / "lost"
-    lost.mkdir()
-    taken = lost / f"{'0' * 24}.desk"
-    taken.write_text("a desk")
-    assert f"{taken} was changed" in whole.expect(3)
-    taken.unlink()
-    shutil.copy(whole.line.last, lost / sealed.name_of(sealed.digits_of(whole.line.last)))
-    whole.expect(0)
-    with opened(whole.line.last) as database:
-        database.execute(LATER)
-    shutil.copy(whole.line.last, lost / sealed.name_of(sealed.digits_of(whole.line.last)))
-    whole.expect(3, "1 commands of S are in", "and no file of the chain has them")

@@ -13,10 +13,9 @@ import re
 import shutil
 import types
 import zipfile
-from typing import Any, Iterator
+from typing import Any
 
 import pytest
-from lab import small
 from lab.line import Line
 from lab.tools import KILL_AFTER, KILLED, Word, run, tool
 from lab.waits import wait_for
@@ -79,15 +78,8 @@ class Site:
 
 
 @pytest.fixture(scope="module")
-def line(program: pathlib.Path, tmp_path_factory: pytest.TempPathFactory) -> Iterator[Line]:
-    made = Line(program, tmp_path_factory.mktemp("small") / "line")
-    made.feed([])
-    made.serve()
-    try:
-        small.begin(made)
-        yield made
-    finally:
-        made.end()
+def line(small_line: Line) -> Line:
+    return small_line
 
 
 @pytest.fixture

@@ -94,15 +94,8 @@ def site(program: pathlib.Path) -> Iterator[RecallSite]:
 
 
 @pytest.fixture(scope="module")
-def line(program: pathlib.Path, tmp_path_factory: pytest.TempPathFactory) -> Iterator[Line]:
-    made = Line(program, tmp_path_factory.mktemp("small") / "line")
-    made.feed([])
-    made.serve()
-    try:
-        small.begin(made)
-        yield made
-    finally:
-        made.end()
+def line(small_line: Line) -> Line:
+    return small_line
 
 
 @pytest.mark.parametrize("user", ["", "op", "office"])

@@ -27,15 +27,8 @@ RECEIVED = "INSERT INTO reel VALUES ('K-1', 'CAP', ?, '1', 0, 5, 0, 0, 5, 0, -1,
 
 
 @pytest.fixture(scope="module")
-def line(program: pathlib.Path, tmp_path_factory: pytest.TempPathFactory) -> Iterator[Line]:
-    made = Line(program, tmp_path_factory.mktemp("small") / "line")
-    made.feed([])
-    made.serve()
-    try:
-        small.begin(made)
-        yield made
-    finally:
-        made.end()
+def line(small_line: Line) -> Line:
+    return small_line
 
 
 @pytest.fixture

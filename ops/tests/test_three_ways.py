@@ -181,28 +181,6 @@ def test_boards_of_a_lot_are_the_same(asking: Asking, whole: Database, lot: str)
     assert [tuple(row[its] for its in columns) for row in rows] == by_tool
 
 
-@pytest.mark.parametrize(
-    "change",
-    [
-        (
-            "DELETE FROM placement WHERE ctid = (SELECT placement.ctid FROM placement"
-            " JOIN reel USING (file, reel) WHERE lot = '{}' LIMIT 1)"
-        ),
-        (
-            "UPDATE placement SET slot = slot || 'x'"
-            " WHERE reel IN (SELECT reel FROM reel WHERE lot = '{}')"
-        ),
-    ],
-    ids=["a row is taken out", "another slot"],
-)
-def test_the_comparison_finds_a_change(
-    asking: Asking, again: Database, lot: str, change: str
-) -> None:
-    again.change(change.format(lot))
-    with pytest.raises(AssertionError):
-        expect_same(asking, again, "lot", lot)
-
-
 @pytest.mark.parametrize(("kind", "table"), [("lot", "reel"), ("reel", "reel"), ("board", "start")])
 def test_files_without_the_name_are_not_read(whole: Database, kind: str, table: str) -> None:
     ((name,),) = whole.rows(f"SELECT min({kind}) FROM {table}")

@@ -10,7 +10,6 @@ from __future__ import annotations
 
 import os
 import pathlib
-import random
 import re
 import shutil
 import subprocess
@@ -18,9 +17,8 @@ import textwrap
 from typing import Iterator
 
 import pytest
-from lab import ROOT, small
+from lab import ROOT
 from lab.line import Line
-from lab.recalls import places_in
 from lab.tools import Word, run
 from tracedesk_ops.recalls import signing
 from tracedesk_ops.recalls.evidence import sums_of
@@ -34,10 +32,6 @@ pytestmark = [
 COMMANDS = ("sh", "ssh-keygen", "sha256sum")
 PATH = "/usr/local/bin:/usr/bin:/bin"
 LIBRARY = re.compile(r"(/\S+) \(0x")
-FLIPS = [
-    pytest.param(20, marks=pytest.mark.gate),
-    pytest.param(1_000, marks=pytest.mark.whole),
-]
 
 
 def commands() -> list[str]:
@@ -104,19 +98,12 @@ class Customer:
 
 
 @pytest.fixture(scope="module")
-def customer(program: pathlib.Path, tmp_path_factory: pytest.TempPathFactory) -> Iterator[Customer]:
+def customer(small_line: Line, tmp_path_factory: pytest.TempPathFactory) -> Iterator[Customer]:
     folder = tmp_path_factory.mktemp("customer")
     named = os.environ.get("TRACEDESK_CUSTOMER_ROOT")
     root = pathlib.Path(named) if named else make_root(folder / "root")
-    line = Line(program, folder / "line")
-    line.feed([])
-    line.serve()
-    try:
-        small.begin(line)
-        yield Customer(root, line, folder)
-    finally:
-        line.end()
-        shutil.rmtree(root / "evidence", ignore_errors=True)
+    yield Customer(root, small_line, folder)
+    shutil.rmtree(root / "evidence", ignore_errors=True)
 
 
 def rewrite_sums(folder: pathlib.Path) -> None:
@@ -131,25 +118,6 @@ def test_evidence_is_verified_by_the_two_commands(customer: Customer) -> None:
     assert customer.verified() == [True, True]
 
 
-@pytest.mark.parametrize("flips", FLIPS)
-def test_each_flipped_bit_is_refused(customer: Customer, seed: int, flips: int) -> None:
-    """By one of the two commands; half of them in the checksums and the signature. Of the signature
-    that is its letters: ssh-keygen reads them whatever ends their lines.
-    """
-    folder, rng = customer.copy(), random.Random(seed)
-    signed = [folder / signing.SUMS, folder / signing.SIGNATURE]
-    names = {line.split()[-1] for line in signed[0].read_text().splitlines()}
-    files = sorted(folder / name for name in names if (folder / name).stat().st_size)
-    for number in range(flips):
-        file = rng.choice(signed if number % 2 else files)
-        kept = file.read_bytes()
-        text, place = bytearray(kept), rng.choice(places_in(kept))
-        text[place] ^= 1 << rng.randrange(8)
-        file.write_bytes(text)
-        assert customer.verified() != [True, True], f"{file.name}, byte {place}"
-        file.write_bytes(kept)
-
-
 @pytest.mark.gate
 def test_a_row_less_is_refused(customer: Customer) -> None:
     """Also with checksums made anew."""
@@ -157,15 +125,6 @@ def test_a_row_less_is_refused(customer: Customer) -> None:
     for file in folder.glob("*.csv"):
         rows = file.read_text().splitlines(keepends=True)
         file.write_text("".join(row for row in rows if "SN-1" not in row))
-    assert customer.verified() == [True, False]
-    rewrite_sums(folder)
-    assert customer.verified() == [False, True]
-
-
-@pytest.mark.gate
-def test_the_answer_of_another_chain_is_refused(customer: Customer) -> None:
-    folder = customer.copy()
-    (folder / "chain-1.csv").write_text("board,file\nSN-7,L1-1\n")
     assert customer.verified() == [True, False]
     rewrite_sums(folder)
     assert customer.verified() == [False, True]
