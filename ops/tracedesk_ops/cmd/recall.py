@@ -47,8 +47,8 @@ is 3.
                 unload came late or was refused
 --shipped FILE  a CSV file with the columns board,customer,date, which the boards have then
 --customer NAME  with --shipped and --evidence: the evidence has the serials of this customer alone,
-                 also those that hold no
-                piece, and nothing of other boards; a serial that no line knows makes it incomplete
+                 even those that hold no piece, and nothing of other boards; a serial that no line
+                 knows makes it incomplete
 --evidence FOLDER  all of it as CSV, the program's answers, a certificate, checksums and a
                    signature: tracedesk-verify verifies it
 --key FILE      the private key that signs the evidence, as ssh-keygen makes it, or the socket of

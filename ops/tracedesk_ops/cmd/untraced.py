@@ -23,7 +23,8 @@ attributes of reels out of their receipts, into reels.csv, and writes untraced.j
 has it. A refused load, splice or unload has a record too, and needs no decision. If a recall names
 pieces as doubtful because of it, and nothing was placed from that reel, decide --became 'taken
 off'. If untraced.csv or reels.csv lacks a row, or its note is gone, and no mirror has it, look for
-that work on paper, then decide lost: it takes the rows that are there for all.
+that work in the shift's own records. Then decide about `lost` in place of an ID: the rows that are
+left count as all.
 
 --line     the line's name or folder, where several are set up
 --became   scrapped, reworked, used as it is, sent again, or words of your own; of a refused reel,
