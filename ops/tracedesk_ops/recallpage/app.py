@@ -36,7 +36,7 @@ DOWNLOADS = (
 )
 STATES = {
     0: "complete",
-    1: "complete: nothing of it is known",
+    1: "NOT FOUND",
     3: "NOT COMPLETE",
     5: "complete, with doubtful pieces",
 }

@@ -152,7 +152,7 @@ def headline_of(told: dict[str, Any], title: str) -> str:
     if is_board:
         found = f"{title} has {count(answer['pieces'], 'piece')}"
     if answer["status"] == 1:
-        return f"Complete: none of these lines knows {title}. Look at how it is spelled."
+        return f"NOT FOUND: none of these lines knows {title}. Look at how it is spelled."
     if not answer["is_complete"]:
         return f"NOT COMPLETE: {found}, and more may be missing."
     if answer["doubtful"]:
