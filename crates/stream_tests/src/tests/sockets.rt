@@ -3,6 +3,7 @@
 use super::Full;
 use desk_commands::{Clients, NoClient, serve_listener};
 use desk_types::Wire;
+use gateway_http::Gateway;
 use std::io::{Read, Write};
 use std::net::{Shutdown, TcpListener, TcpStream};
 use std::test::Fail;
@@ -53,6 +54,10 @@ fn sockets(rt: HostRuntime) -> Result<(), Fail> {
         routes: &mut None,
     };
     let status = serve_listener(rt.alloc(), &mut clients, 1, &mut output, &mut handler);
+    let Gateway {
+        owner: _,
+        routes: _,
+    } = handler;
     let mut told = Vec::new(rt.alloc());
     caller.read_to_end(&mut told)?;
     assert_eq!(rt; status, 1);
