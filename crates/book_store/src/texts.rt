@@ -3,12 +3,12 @@
 ghost use Rattle.std.specs.Prelude.{◌≡◌, IfOk, IsUtf8, List, Ok, ℕ};
 ghost use Rattle.desk_answers.specs.declared.answer.Answer.TheVariants.{Accepted};
 ghost use Rattle.desk_feed.specs.declared.message.Verdict.TheVariants as verdict;
-ghost use Rattle.desk_feed.specs.Verdicts.{command_verdict, message_verdict};
+ghost use Rattle.desk_feed.specs.Verdicts.{command_verdict};
 ghost use Rattle.book_store.specs.Answered.{command_told, fault_told, ignored_told};
 
 use cfx_profile::{MessageFault, ignored_text};
 use desk_answers::Answer;
-use desk_feed::{AnswerText, Verdict};
+use desk_feed::{AnswerText, Verdict, message_verdict};
 use desk_types::{Stamped, Text};
 use line_schema::Unavailable;
 use std::alloc::{AllocError, Global};
@@ -67,14 +67,5 @@ fn command_verdict(answer: &Answer) -> Verdict
         Answer::Accepted(..) => Verdict::Accepted,
         Answer::Unavailable => Verdict::Unavailable,
         _ => Verdict::Refused,
-    }
-}
-
-fn message_verdict(fault: &MessageFault) -> Verdict
-    ensures { result ≡ message_verdict fault.now }
-{
-    match fault {
-        MessageFault::BodyMember(_) | MessageFault::OverLimit(_) => Verdict::Faulty,
-        _ => Verdict::Unreadable,
     }
 }

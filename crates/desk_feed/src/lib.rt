@@ -20,6 +20,6 @@ pub use answering::{answer_import, serve_import};
 pub use feeding::feed;
 pub use law::repeats_act_once;
 pub use line::LineAnswer;
-pub use message::{AnswerText, Verdict, answer_command, answer_message};
+pub use message::{AnswerText, Verdict, answer_command, answer_message, message_verdict};
 pub use options::{BadOption, counts_import, setup_import};
 pub use reading::{Folder, UnreadFile, read_file};

@@ -107,7 +107,8 @@ pub fn answer_command<L: Owner>(
     }
 }
 
-fn message_verdict(fault: &MessageFault) -> Verdict
+/// Returns the verdict on a message with this fault.
+pub fn message_verdict(fault: &MessageFault) -> Verdict
     ensures { result ≡ message_verdict fault.now }
 {
     match fault {

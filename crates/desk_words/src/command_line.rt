@@ -279,7 +279,7 @@ fn greatest_in(found: &ArgMatches<'_>) -> Option<u32>
 }
 
 /// Returns the number in the text of an option, from 1 to the greatest.
-fn number_in(found: &ArgMatches<'_>, name: &str, most: u32) -> Option<u32>
+pub fn number_in(found: &ArgMatches<'_>, name: &str, most: u32) -> Option<u32>
     ensures some { IfSome result (Shows most (first_of name.now (rows_of (found_of found.now)))) }
     ensures none { IsNone result
         → ShowsNone most (first_of name.now (rows_of (found_of found.now))) }
@@ -290,7 +290,8 @@ fn number_in(found: &ArgMatches<'_>, name: &str, most: u32) -> Option<u32>
     }
 }
 
-fn numeral(text: &str, most: u32) -> Option<u32>
+/// Returns the number in a text, from 1 to the greatest.
+pub fn numeral(text: &str, most: u32) -> Option<u32>
     ensures some { IfSome result (λ n. IsUnsignedIn 1 most text.now × (n ≡ number_of text.now)) }
     ensures none { IsNone result → IsUnsignedIn 1 most text.now → ⊥ }
 {
@@ -487,7 +488,7 @@ fn with_stamp<'a>(
 }
 
 /// The command with one more option, which is required.
-fn with_wanted<'a>(
+pub fn with_wanted<'a>(
     alloc: Global,
     command: clap::Command<'a>,
     name: &'a str,

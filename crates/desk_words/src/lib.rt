@@ -6,5 +6,5 @@
 mod command_line;
 mod words;
 
-pub use command_line::{CommandLine, read_words};
+pub use command_line::{CommandLine, number_in, numeral, read_words, with_wanted};
 pub use words::words_behind_name;

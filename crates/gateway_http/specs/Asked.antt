@@ -21,7 +21,7 @@ use Rattle.imports.specs.declared.import.Import.{Import}
 use Rattle.gateway_http.specs.Parameter.{parameter_text}
 use Rattle.gateway_http.specs.Query.{value_of}
 use Rattle.gateway_http.specs.Routes.{method_text, route_method, route_of}
-use Rattle.gateway_http.specs.Values.{detail_of, boards_of}
+use Rattle.gateway_http.specs.Values.{detail_of, boards_of, number_of}
 
 -- ---- the target
 
@@ -64,6 +64,12 @@ unfoldable pub boards_in : List ℕ → Result ℕ AskFault
 boards_in query = do
   text ← parameter_value parameter.Boards query
   ok_or (boards_of text) (BadQuery parameter.Boards)
+
+-- 1 to 9 digits.
+unfoldable pub number_in : Parameter → List ℕ → Result ℕ AskFault
+number_in p query = do
+  text ← parameter_value p query
+  ok_or (number_of 9 text) (BadQuery p)
 
 -- ---- the parameters of each route, in order
 

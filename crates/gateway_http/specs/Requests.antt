@@ -46,6 +46,10 @@ kind_of report.OverdueList = None
 abbrev pub json : Status → List ℕ → Told
 json s text = record { status = s; kind = Json; body = text }
 
+-- An answer with a list or a trace.
+abbrev pub csv : List ℕ → Told
+csv text = record { status = status.Ok; kind = Csv; body = text }
+
 -- Nothing of this kind was found.
 abbrev pub none_told : Option Kind → Told
 none_told (Some kind) = json status.NotFound (not_found_text kind)
@@ -53,7 +57,7 @@ none_told None = unavailable
 
 -- A report, or the answer that its subject isn't found.
 abbrev pub report_told : Report → Option (List ℕ) → Told
-report_told asked_of (Some text) = record { status = status.Ok; kind = Csv; body = text }
+report_told asked_of (Some text) = csv text
 report_told asked_of None = none_told (kind_of asked_of)
 
 -- An answer that leaves the history unchanged.

@@ -8,11 +8,11 @@ ghost use Rattle.gateway_http.specs.Requests.{kind_of, none_told, report_told, o
 
 use crate::asked::{Asked, Report};
 use crate::fault::AskFault;
-use crate::message_answers::{answer_fault, answer_import, answer_message, json};
+use crate::message_answers::{answer_fault, answer_import, answer_message, csv, json};
 use crate::reported::ReportedOwner;
 use crate::routes::RouteTable;
 use desk_types::Text;
-use http_stream::{Body, MediaType, Response, Status};
+use http_stream::{Response, Status};
 use line_schema::Unavailable;
 use std::alloc::Global;
 use trace_reports::not_found_text;
@@ -67,11 +67,7 @@ pub fn report_response(
     ensures { IfOk result (λ response. response_told response ≡ report_told report found) }
 {
     match found {
-        Some(text) => Ok(Response {
-            status: Status::Ok,
-            kind: MediaType::Csv,
-            body: Body::Made(text),
-        }),
+        Some(text) => Ok(csv(text)),
         None => answer_none(alloc, kind_of(report)),
     }
 }

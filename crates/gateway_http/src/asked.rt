@@ -4,14 +4,14 @@ ghost use Rattle.std.specs.Prelude.{◌≡◌, ◌≢◌, Ok, Err, IfOk, IfErr};
 ghost use Rattle.std.specs.Cow.{cow_str_bytes};
 ghost use Rattle.std.specs.List.{position};
 ghost use Rattle.cfx_profile.specs.Forms.{id_of};
-ghost use Rattle.gateway_http.specs.Asked.{is_mark, path_of, query_of, parameter_value, id_in, minute_in, detail_in, boards_in, import_in, asked_at, check_method, asked_of};
+ghost use Rattle.gateway_http.specs.Asked.{is_mark, path_of, query_of, parameter_value, id_in, minute_in, detail_in, boards_in, number_in, import_in, asked_at, check_method, asked_of};
 ghost use Rattle.gateway_http.specs.Fault.{IsAsked};
 
 use crate::fault::AskFault;
 use crate::parameter::Parameter;
 use crate::query::value_of;
 use crate::routes::{Method, Route, RouteTable};
-use crate::values::{boards_of, detail_of};
+use crate::values::{boards_of, detail_of, number_of};
 use cfx_profile::read_minute;
 use desk_types::{Boards, Id, Minute, TraceDetail};
 use imports::{Content, Import};
@@ -210,6 +210,15 @@ fn boards_in(alloc: Global, query: &[u8]) -> Result<Boards, AskFault>
 {
     let text = parameter_value(alloc, query, Parameter::Boards)?;
     boards_of(text.as_str()).ok_or(AskFault::BadQuery(Parameter::Boards))
+}
+
+/// Returns the number of 1 to 9 digits in a query's parameter, which must occur exactly once.
+#[tactic(auto, unfolding(crate::specs::Asked::number_in))]
+pub fn number_in(alloc: Global, query: &[u8], parameter: Parameter) -> Result<u32, AskFault>
+    ensures { IsAsked (number_in parameter query.now) result }
+{
+    let text = parameter_value(alloc, query, parameter)?;
+    number_of(text.as_str(), 9).ok_or(AskFault::BadQuery(parameter))
 }
 
 #[tactic(auto, unfolding(crate::specs::Asked::parameter_value))]

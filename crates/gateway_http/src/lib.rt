@@ -22,14 +22,16 @@ mod store;
 mod values;
 
 pub use answers::{answer_report, report_response};
-pub use asked::{Asked, Report, check_method, cut_target, id_in};
+pub use asked::{Asked, Report, check_method, cut_target, id_in, number_in};
 pub use desk_answers::{ServeFault, Served};
 pub use fault::AskFault;
 pub use gateway::{Gateway, ask, make_missing, serve};
 pub use http_stream::{Body, MediaType, Response, Status};
 pub use law::{questions_leave_the_list, repeats_leave_the_list};
 pub use line_schema::Unavailable;
-pub use message_answers::{answer_fault, answer_import, answer_message, answer_response, json};
+pub use message_answers::{
+    answer_fault, answer_import, answer_message, answer_response, csv, json,
+};
 pub use parameter::Parameter;
 pub use query::value_of;
 pub use reported::ReportedOwner;

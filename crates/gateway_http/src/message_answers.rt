@@ -5,7 +5,7 @@ ghost use Rattle.gateway_http.specs.Answer.{fault_text};
 ghost use Rattle.http_stream.specs.Answers.{response_told};
 ghost use Rattle.imports.specs.Import.{command_said};
 ghost use Rattle.gateway_http.specs.Gateways.{Meets};
-ghost use Rattle.gateway_http.specs.Requests.{json, told, import_outcome, message_outcome};
+ghost use Rattle.gateway_http.specs.Requests.{csv, json, told, import_outcome, message_outcome};
 ghost use Rattle.gateway_http.specs.Statuses.{request_fault_status};
 
 use crate::fault::AskFault;
@@ -25,6 +25,17 @@ pub fn json(status: Status, text: Text) -> Response
     Response {
         status,
         kind: MediaType::Json,
+        body: Body::Made(text),
+    }
+}
+
+/// Returns an answer with a list or a trace.
+pub fn csv(text: Text) -> Response
+    ensures { response_told result ≡ csv text }
+{
+    Response {
+        status: Status::Ok,
+        kind: MediaType::Csv,
         body: Body::Made(text),
     }
 }

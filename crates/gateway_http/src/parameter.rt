@@ -19,6 +19,8 @@ pub enum Parameter {
     Detail,
     Reel,
     Boards,
+    /// The number of an entry of the book.
+    After,
 }
 
 impl Parameter {
@@ -37,6 +39,7 @@ impl Parameter {
             Parameter::Detail => "detail",
             Parameter::Reel => "reel",
             Parameter::Boards => "boards",
+            Parameter::After => "after",
         }
     }
 }

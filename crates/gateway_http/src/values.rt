@@ -19,18 +19,19 @@ pub fn detail_of(text: &str) -> Option<TraceDetail>
 pub fn boards_of(text: &str) -> Option<Boards>
     ensures { result ≡ boards_of text.now }
 {
-    Boards::new(number_of(text, 6)?)
+    Boards::new(u64::from(number_of(text, 6)?))
 }
 
+/// Reads a number of 1 to this many digits.
 #[tactic(auto, unfolding(crate::specs::Values::number_of))]
-fn number_of(text: &str, most_digits: usize) -> Option<u64>
+pub fn number_of(text: &str, most_digits: usize) -> Option<u32>
     requires { most_digits ≤ 9 }
     ensures { result ≡ number_of most_digits text.now }
 {
     if !is_numeral(text.as_bytes(), most_digits) {
         return None;
     }
-    text.parse::<u64>().ok()
+    text.parse::<u32>().ok()
 }
 
 fn is_numeral(text: &[u8], most_digits: usize) -> bool
