@@ -1,8 +1,8 @@
 -- The book's text, from the rows that were read.
-use Rattle.desk_types.proofs.Common.{[], ◌&&◌, ◌+◌, ◌<◌, ◌∙◌, ◌∷◌, ◌≡◌, ◌≤◌, ap, arith, Bool, cases_Bool, decimal, false}
+use Rattle.desk_types.proofs.Common.{[], ◌&&◌, ◌+◌, ◌<◌, ◌∙◌, ◌∷◌, ◌≡◌, ◌≤◌, ap, arith, Bool, cases_Bool, false}
 use Rattle.desk_types.proofs.Common.{filter, if◌then◌else◌, inl, inr, length, List, ltb-true, map, nat_le, nat_lt}
-use Rattle.desk_types.proofs.Common.{nat_tests, refl, string_bytes, true, ℕ}
-use Rattle.line_answers.specs.Book.{book_header, book_text, fields_with, has_number, is_wanted, standing}
+use Rattle.desk_types.proofs.Common.{nat_tests, refl, string_bytes, sym, true, ℕ}
+use Rattle.line_answers.specs.Book.{book_header, book_text, fields_with, is_wanted, Written, written_row}
 use Rattle.line_answers.specs.Csv.{csv_text}
 use Rattle.line_answers.specs.declared.book.Wanted.{Wanted}
 use Rattle.line_answers.specs.declared.book.Wanted.TheVariants.{After, Undecided}
@@ -41,60 +41,59 @@ module _ (a most : ℕ) (q : BookRow → Bool) (behind : (e : BookRow) → 0 < e
 
 -- ---- rows with the same columns
 
-module _ (open_notes waiting : List Note) (wanted : Wanted) where
-  abbrev fields : BookRow → List (List ℕ)
-  fields = fields_with open_notes waiting
+row_same : (x y : BookRow) → entry_columns x ≡ entry_columns y → written_row x ≡ written_row y
+row_same x y same =
+    let number : x.number ≡ y.number = cc in
+    let after : x.after ≡ y.after = cc in
+    let kind : string_bytes x.kind ≡ string_bytes y.kind = cc in
+    let source : string_bytes x.source ≡ string_bytes y.source = cc in
+    let uid : string_bytes x.uid ≡ string_bytes y.uid = cc in
+    let machine : string_bytes x.machine ≡ string_bytes y.machine = cc in
+    let slot : string_bytes x.slot ≡ string_bytes y.slot = cc in
+    let board : string_bytes x.board ≡ string_bytes y.board = cc in
+    let reel : string_bytes x.reel ≡ string_bytes y.reel = cc in
+    let word : string_bytes x.word ≡ string_bytes y.word = cc in
+    let of : x.of ≡ y.of = cc in
+    let told : string_bytes x.told ≡ string_bytes y.told = cc in
+    λ i. record {
+      number = number i;
+      after = after i;
+      kind = kind i;
+      source = source i;
+      uid = uid i;
+      machine = machine i;
+      slot = slot i;
+      board = board i;
+      reel = reel i;
+      word = word i;
+      of = of i;
+      told = told i;
+    }
 
-  abbrev asked : BookRow → Bool
-  asked = is_wanted waiting wanted
+rows_same : (xs ys : List BookRow) → map entry_columns xs ≡ map entry_columns ys
+    → map written_row xs ≡ map written_row ys
+rows_same [] [] same = refl
+rows_same [] (y ∷ ys) same = cc
+rows_same (x ∷ xs) [] same = cc
+rows_same (x ∷ xs) (y ∷ ys) same =
+    let row : entry_columns x ≡ entry_columns y = cc in
+    let rows : map entry_columns xs ≡ map entry_columns ys = cc in
+    let one = row_same x y row in
+    let more = rows_same xs ys rows in
+    λ i. one i ∷ more i
 
-  number_asked : (x y : BookRow) → x.number ≡ y.number → asked x ≡ asked y
-  number_asked x y same = is_asked wanted
-    where
-      is_asked : (w : Wanted) → is_wanted waiting w x ≡ is_wanted waiting w y
-      is_asked (After number) = ap (nat_lt number) same
-      is_asked Undecided = ap (has_number waiting) same
-
-  fields_same : (x y : BookRow) → entry_columns x ≡ entry_columns y → fields x ≡ fields y
-  fields_same x y same =
-      let number : x.number ≡ y.number = cc in
-      let after : x.after ≡ y.after = cc in
-      let kind : string_bytes x.kind ≡ string_bytes y.kind = cc in
-      let source : string_bytes x.source ≡ string_bytes y.source = cc in
-      let uid : string_bytes x.uid ≡ string_bytes y.uid = cc in
-      let machine : string_bytes x.machine ≡ string_bytes y.machine = cc in
-      let slot : string_bytes x.slot ≡ string_bytes y.slot = cc in
-      let board : string_bytes x.board ≡ string_bytes y.board = cc in
-      let reel : string_bytes x.reel ≡ string_bytes y.reel = cc in
-      let word : string_bytes x.word ≡ string_bytes y.word = cc in
-      let of : x.of ≡ y.of = cc in
-      let told : string_bytes x.told ≡ string_bytes y.told = cc in
-      λ i. decimal (number i) ∷ decimal (after i) ∷ kind i ∷ source i ∷ uid i ∷ machine i ∷ slot i ∷ board i
-      ∷ reel i ∷ word i ∷ decimal (of i) ∷ told i ∷ standing open_notes waiting (number i) ∷ []
-
-  one_more : (x y : BookRow) (xs ys : List BookRow) (b c : Bool) → b ≡ c → fields x ≡ fields y
-      → map fields xs ≡ map fields ys → map fields (if b then x ∷ xs else xs) ≡ map fields (if c then y ∷ ys else ys)
-  one_more x y xs ys true true same row rows = let it : fields x ∷ map fields xs ≡ fields y ∷ map fields ys = cc in it
-  one_more x y xs ys false false same row rows = rows
-  one_more x y xs ys true false same row rows = cc
-  one_more x y xs ys false true same row rows = cc
-
-  same_fields : (xs ys : List BookRow) → map entry_columns xs ≡ map entry_columns ys
-      → map fields (filter asked xs) ≡ map fields (filter asked ys)
-  same_fields [] [] same = refl
-  same_fields [] (y ∷ ys) same = cc
-  same_fields (x ∷ xs) [] same = cc
-  same_fields (x ∷ xs) (y ∷ ys) same =
-      let row : entry_columns x ≡ entry_columns y = cc in
-      let rows : map entry_columns xs ≡ map entry_columns ys = cc in
-      let number : x.number ≡ y.number = cc in
-      one_more x y (filter asked xs) (filter asked ys) (asked x) (asked y) (number_asked x y number)
-      (fields_same x y row) (same_fields xs ys rows)
+written_filter : (q : Written → Bool) (rows : List BookRow)
+    → filter q (map written_row rows) ≡ map written_row (filter (λ e. q (written_row e)) rows)
+written_filter q [] = refl
+written_filter q (e ∷ rows) = elim (q (written_row e)) as
+    (λ b. (if b then written_row e ∷ filter q (map written_row rows) else filter q (map written_row rows))
+    ≡ map written_row (if b then e ∷ filter (λ e. q (written_row e)) rows else filter (λ e. q (written_row e)) rows))
+    [ true ↦ ap (λ more. written_row e ∷ more) (written_filter q rows) | false ↦ written_filter q rows ]
 
 -- ---- the text
 
 behind_wanted : (waiting : List Note) (wanted : Wanted) (e : BookRow) → 0 < e.number
-    → is_wanted waiting wanted e ≡ true → before_wanted wanted < e.number
+    → is_wanted waiting wanted (written_row e) ≡ true → before_wanted wanted < e.number
 behind_wanted waiting (After number) e some is = ltb-true number e.number is
 behind_wanted waiting Undecided e some is = some
 
@@ -102,7 +101,8 @@ behind_wanted waiting Undecided e some is = some
 pub text_read : (L : Lists) (b : Reading) → AreRead (first_reading (length L.kept.history)) L.rows L.notes b
     → (wanted : Wanted) (found : List BookRow)
     → map entry_columns found ≡ map entry_columns (window (before_wanted wanted) (length L.notes) L.rows)
-    → book_text L.kept.history L.notes wanted found ≡ book_text L.kept.history L.notes wanted L.rows
+    → book_text L.kept.history L.notes wanted (map written_row found)
+    ≡ book_text L.kept.history L.notes wanted (map written_row L.rows)
 text_read L b read wanted found same =
     let open_notes = filter (is_open L.kept.history L.notes) L.notes in
     let waiting = undecided L.notes in
@@ -110,6 +110,10 @@ text_read L b read wanted found same =
     let count = read-count (first_reading (length L.kept.history)) b L.rows L.notes read in
     let on : GoOn 0 L.rows = read-numbers (first_reading (length L.kept.history)) b L.rows L.notes read in
     let fits : 0 + length L.rows ≤ a + length L.notes = omega (arith, count.0, count.1) in
-    let whole = enough a (length L.notes) (is_wanted waiting wanted) (behind_wanted waiting wanted) 0 L.rows on fits in
-    ap (csv_text book_header) (same_fields open_notes waiting wanted found (window a (length L.notes) L.rows) same
-    ∙ ap (map (fields_with open_notes waiting)) whole)
+    let asked = is_wanted waiting wanted in
+    let whole = enough a (length L.notes) (λ e. asked (written_row e)) (behind_wanted waiting wanted) 0 L.rows on
+    fits in
+    let rows = window a (length L.notes) L.rows in
+    ap (λ ws. csv_text book_header (map (fields_with open_notes waiting) ws))
+    (ap (filter asked) (rows_same found rows same) ∙ written_filter asked rows ∙ ap (map written_row) whole
+    ∙ sym (written_filter asked L.rows))

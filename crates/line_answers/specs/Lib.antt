@@ -1,5 +1,6 @@
 pub mod Bodies
 pub mod Book
+pub mod Counts
 pub mod Csv
 pub mod Fault
 pub mod NotFound

@@ -1,10 +1,10 @@
 //! The book as CSV.
 
-ghost use Rattle.std.specs.Prelude.{◌≡◌, List, ℕ, [], ◌++◌, filter, if◌then◌else◌, IfOk, OnOk};
+ghost use Rattle.std.specs.Prelude.{◌≡◌, List, ℕ, [], ◌++◌, filter, if◌then◌else◌, map, IfOk, OnOk};
 ghost use Rattle.desk_types.specs.History.{History};
 ghost use Rattle.line_book.specs.Book.{Book, is_open};
 ghost use Rattle.line_book.specs.Undecided.{undecided};
-ghost use Rattle.line_answers.specs.Book.{book_header, book_text, entry_fields, fields_with, has_number, is_wanted, standing, text_with};
+ghost use Rattle.line_answers.specs.Book.{book_header, book_text, entry_fields, has_number, is_wanted, standing, text_with, written_row};
 ghost use Rattle.line_answers.specs.Csv.{record_text, HasWritten};
 
 use crate::csv_text::{TextWriter, text_of, text_writer, write_fields};
@@ -33,7 +33,7 @@ pub fn book_text(
 ) -> Result<Text, AllocError>
     ensures { (H : History) (B : Book) → open_notes.now ≡ filter (is_open H B) B
         → waiting.now ≡ undecided B
-        → IfOk result (λ text. text ≡ book_text H B wanted rows.now) }
+        → IfOk result (λ text. text ≡ book_text H B wanted (map written_row rows.now)) }
 {
     text_with(alloc, rows, open_notes, waiting, wanted)
 }
@@ -46,7 +46,7 @@ fn text_with(
     wanted: Wanted,
 ) -> Result<Text, AllocError>
     ensures { IfOk result
-        (λ text. text ≡ text_with open_notes.now waiting.now wanted rows.now) }
+        (λ text. text ≡ text_with open_notes.now waiting.now wanted (map written_row rows.now)) }
 {
     let mut writer = text_writer(alloc);
     write_header(&mut writer)?;
@@ -77,8 +77,8 @@ fn write_if(
     row: &BookRow,
 ) -> Result<(), AllocError>
     ensures { (text : List ℕ) → HasWritten writer.old text
-        → OnOk result (HasWritten writer.new
-        (text ++ (if wanted then record_text (entry_fields state.now row.now) else []))) }
+        → OnOk result (HasWritten writer.new (text ++ (if wanted
+        then record_text (entry_fields state.now (written_row row.now)) else []))) }
 {
     if !wanted {
         return Ok(());
@@ -89,7 +89,7 @@ fn write_if(
 fn write_row(writer: &mut TextWriter, state: &str, row: &BookRow) -> Result<(), AllocError>
     ensures { (text : List ℕ) → HasWritten writer.old text
         → OnOk result (HasWritten writer.new
-        (text ++ record_text (entry_fields state.now row.now))) }
+        (text ++ record_text (entry_fields state.now (written_row row.now)))) }
 {
     write_fields(
         writer,
@@ -124,7 +124,7 @@ fn standing(open_notes: &[Note], waiting: &[Note], number: u32) -> &'static str
 }
 
 fn is_wanted(waiting: &[Note], wanted: Wanted, row: &BookRow) -> bool
-    ensures { result ≡ is_wanted waiting.now wanted row.now }
+    ensures { result ≡ is_wanted waiting.now wanted (written_row row.now) }
 {
     match wanted {
         Wanted::After(number) => row.number > number,

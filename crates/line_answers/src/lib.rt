@@ -6,6 +6,7 @@
 mod bodies;
 mod book;
 mod cause;
+mod counts;
 mod csv_text;
 mod fault;
 mod kind;
@@ -17,6 +18,7 @@ mod state;
 
 pub use bodies::{read_decision, read_hold, read_release};
 pub use book::{Wanted, book_text};
+pub use counts::{Counts, counts_text};
 pub use fault::LineFault;
 pub use kind::{Kind, not_found_text};
 pub use limits::LONGEST_SAYING;

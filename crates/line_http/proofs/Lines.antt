@@ -11,6 +11,7 @@ use Rattle.desk_types.specs.declared.command.Stamped.{Stamped}
 use Rattle.desk_types.specs.declared.rules.Rules.TheVariants.{Two}
 use Rattle.desk_types.specs.Id.{Name}
 use Rattle.line_tables.proofs.Common.{Ghosts, HasCleanDisk}
+use Rattle.line_answers.specs.Book.{Written, written_row}
 use Rattle.line_answers.specs.Fault.{fault_text}
 use Rattle.line_answers.specs.declared.fault.LineFault.{LineFault}
 use Rattle.line_answers.specs.declared.fault.LineFault.TheVariants.{NoMemory}
@@ -39,8 +40,7 @@ use Rattle.book_store.specs.Lists.{book_state, Lists, StandsFor}
 use Rattle.book_store.specs.Said.{said_entry, Says}
 use Rattle.line_http.specs.Gives.{Gives, GivesOne}
 use Rattle.line_http.specs.Desk.{desk_asked, with_outcome}
-use Rattle.line_http.specs.Line.{column_text, Line, line_of, Represents, with_entry, with_saying, Written, written}
-use Rattle.line_http.specs.Line.{written_row}
+use Rattle.line_http.specs.Line.{column_text, Line, line_of, Represents, with_entry, with_saying, written}
 use Rattle.line_http.specs.Messages.{heard, message_entry as line_entry, noted}
 use Rattle.line_http.specs.Rule.{body_status, is_memory, leaving, said_outcome}
 

@@ -1,12 +1,12 @@
 -- Both lists of a line, as its routes see them.
-use Rattle.std.specs.Prelude.{◌≡◌, ◌+◌, ◌++◌, ◌∷◌, [], ℕ, IsTrue, List, None, Option, Some, length, map, string_bytes}
+use Rattle.std.specs.Prelude.{◌≡◌, ◌+◌, ◌++◌, ◌∷◌, [], ℕ, IsTrue, List, None, Option, Some, length, map}
 use Rattle.sqlite_trees.specs.declared.store.Store.{Ghosts}
 use Rattle.desk_answers.specs.Ledger.{Ledger}
 use Rattle.desk_types.specs.History.{Basis}
 use Rattle.desk_types.specs.Id.{Name}
+use Rattle.line_answers.specs.Book.{Written, written_row}
 use Rattle.line_book.specs.declared.note.Matter.{Matter}
 use Rattle.line_book.specs.declared.note.Note.{Note}
-use Rattle.line_book.specs.declared.row.BookRow.{BookRow}
 use Rattle.line_book.specs.Book.{Book}
 use Rattle.line_book.specs.Rows.{kind_text}
 use Rattle.line_entries.specs.declared.entry.Place.{Place}
@@ -19,21 +19,6 @@ use Rattle.line_schema.specs.Stands.{ledger}
 use Rattle.book_store.specs.Noted.{nobody}
 use Rattle.book_store.specs.Lists.{Lists, StandsFor}
 
--- A row of the book: its numbers, and the bytes of its texts.
-pub record Written : Type 0 where
-  pub number : ℕ
-  pub after : ℕ
-  pub kind : List ℕ
-  pub source : List ℕ
-  pub uid : List ℕ
-  pub machine : List ℕ
-  pub slot : List ℕ
-  pub board : List ℕ
-  pub reel : List ℕ
-  pub word : List ℕ
-  pub of : ℕ
-  pub told : List ℕ
-
 -- The desk with its history of accepted commands, and the book: what its entries say, and how they
 -- are written.
 pub record Line : Type 0 where
@@ -42,22 +27,6 @@ pub record Line : Type 0 where
   pub rows : List Written
 
 -- ---- a store
-
-abbrev pub written_row : BookRow → Written
-written_row row = record {
-  number = row.number;
-  after = row.after;
-  kind = string_bytes row.kind;
-  source = string_bytes row.source;
-  uid = string_bytes row.uid;
-  machine = string_bytes row.machine;
-  slot = string_bytes row.slot;
-  board = string_bytes row.board;
-  reel = string_bytes row.reel;
-  word = string_bytes row.word;
-  of = row.of;
-  told = string_bytes row.told;
-}
 
 abbrev pub line_of : Lists → Line
 line_of L =

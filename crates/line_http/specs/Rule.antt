@@ -2,7 +2,7 @@
 use Rattle.std.specs.Prelude.{ℕ, ◌+◌, Bool, Err, false, List, None, Ok, Option, Result, Some, length, true}
 use Rattle.gateway_http.specs.Answer as request
 use Rattle.gateway_http.specs.Asked.{path_of, query_of}
-use Rattle.gateway_http.specs.Requests.{json}
+use Rattle.gateway_http.specs.Requests.{csv, json}
 use Rattle.gateway_http.specs.Statuses.{request_fault_status}
 use Rattle.gateway_http.specs.declared.fault.AskFault.{AskFault}
 use Rattle.http_stream.specs.Answers.{Told}
@@ -11,10 +11,13 @@ use Rattle.http_stream.specs.Stream.{Outcome, Rule}
 use Rattle.http_stream.specs.declared.response.Status.{Status}
 use Rattle.http_stream.specs.declared.response.Status.TheVariants as status
 use Rattle.line_answers.specs.Bodies.{decision_said, hold_said, release_said}
+use Rattle.line_answers.specs.Book.{book_text}
+use Rattle.line_answers.specs.Counts.{counts_of, counts_text}
 use Rattle.line_answers.specs.Fault.{fault_text}
 use Rattle.line_answers.specs.NotFound.{not_found_text}
 use Rattle.line_answers.specs.Noted.{noted_text}
 use Rattle.line_answers.specs.State.{state_text}
+use Rattle.line_answers.specs.declared.book.Wanted.{Wanted}
 use Rattle.line_answers.specs.declared.fault.LineFault.{LineFault}
 use Rattle.line_answers.specs.declared.fault.LineFault.TheVariants.{BodyMember, NoMemory, NotFound, NotJson, NotObject}
 use Rattle.line_answers.specs.declared.kind.Kind.TheVariants.{Machine}
@@ -70,6 +73,15 @@ abbrev pub state_told : Option (List ℕ) → Told
 state_told (Some text) = json status.Ok text
 state_told None = json status.NotFound (not_found_text Machine)
 
+-- ---- the book
+
+-- The rows of the book that are asked for, and what each entry still asks for.
+abbrev pub book_told : Line → Wanted → Told
+book_told line wanted = csv (book_text line.desk.history line.notes wanted line.rows)
+
+abbrev pub counts_told : Line → Told
+counts_told line = json status.Ok (counts_text (counts_of line.desk.history line.notes))
+
 -- ---- a request
 
 -- The outcome of a request to one of the line's own routes.
@@ -78,6 +90,8 @@ asked_outcome line body (Ok (asks.Say noted)) =
     said_outcome line noted body (body_said noted (length line.notes) body)
 asked_outcome line body (Ok (asks.State machine)) =
     leaving line (state_told (state_text line.desk.history line.notes machine))
+asked_outcome line body (Ok (asks.Book wanted)) = leaving line (book_told line wanted)
+asked_outcome line body (Ok asks.Counts) = leaving line (counts_told line)
 asked_outcome line body (Err fault) =
     leaving line (json (request_fault_status fault) (request.fault_text fault))
 

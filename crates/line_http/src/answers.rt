@@ -7,7 +7,7 @@ ghost use Rattle.line_answers.specs.State.{state_text};
 ghost use Rattle.book_store.specs.Lists.{Serves, book_state};
 ghost use Rattle.line_http.specs.Asked.{asked_by};
 ghost use Rattle.line_http.specs.Gives.{Gives};
-ghost use Rattle.line_http.specs.Rule.{asked_outcome, leaving, line_rule, state_told};
+ghost use Rattle.line_http.specs.Rule.{asked_outcome, book_told, counts_told, leaving, line_rule, state_told};
 
 use crate::asked::{Asked, read_request};
 use crate::desk::answer_desk;
@@ -16,9 +16,9 @@ use crate::sayings::answer_saying;
 use book_store::BookStore;
 use desk_types::{Id, Text};
 use gateway_http::{
-    AskFault, Response, RouteTable, Status, Unavailable, answer_fault, cut_target, json,
+    AskFault, Response, RouteTable, Status, Unavailable, answer_fault, csv, cut_target, json,
 };
-use line_answers::{Kind, not_found_text};
+use line_answers::{Kind, Wanted, counts_text, not_found_text};
 use sqlite::Alter;
 use state_rows::KeepsRows;
 use std::alloc::Global;
@@ -86,6 +86,8 @@ fn answer_asked<S: Alter, D: KeepsRows + Drop>(
     match asked {
         Asked::Say(noted) => answer_saying(alloc, store, noted, body),
         Asked::State(machine) => answer_state(alloc, store, &machine),
+        Asked::Book(wanted) => answer_book(store, wanted),
+        Asked::Counts => answer_counts(alloc, store),
     }
 }
 
@@ -104,6 +106,35 @@ fn answer_state<S: Alter, D: KeepsRows + Drop>(
 {
     let found = store.state(machine)?;
     tell_state(alloc, found)
+}
+
+/// Answers with rows of the book.
+fn answer_book<S: Alter, D: KeepsRows + Drop>(
+    store: &mut BookStore<S, D>,
+    wanted: Wanted,
+) -> Result<Response, Unavailable>
+    requires serves { Serves S.Store D.Stands store.old }
+    ensures gives { Gives S.Store D.Stands store.old store.new result
+        (λ line. leaving line (book_told line wanted)) }
+    ensures clean { HasCleanDisk (book_state S.Store store.new)
+        → HasCleanDisk (book_state S.Store store.old) }
+    ensures serves { Serves S.Store D.Stands store.new }
+{
+    let text = store.book(wanted)?;
+    Ok(csv(text))
+}
+
+/// Answers how many commands and entries there are.
+fn answer_counts<S: Alter, D: KeepsRows + Drop>(
+    alloc: Global,
+    store: &BookStore<S, D>,
+) -> Result<Response, Unavailable>
+    ensures gives { Gives S.Store D.Stands store.now store.now result
+        (λ line. leaving line (counts_told line)) }
+{
+    let counts = store.counts()?;
+    let text = counts_text(alloc, counts)?;
+    Ok(json(Status::Ok, text))
 }
 
 fn tell_state(alloc: Global, found: Option<Text>) -> Result<Response, Unavailable>

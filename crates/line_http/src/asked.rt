@@ -5,8 +5,8 @@ ghost use Rattle.line_http.specs.Asked.{asked_at, asked_by};
 
 use crate::routes::Route;
 use desk_types::Id;
-use gateway_http::{AskFault, Parameter, check_method, id_in};
-use line_answers::Noted;
+use gateway_http::{AskFault, Parameter, check_method, id_in, number_in};
+use line_answers::{Noted, Wanted};
 use std::alloc::Global;
 
 /// The content of a request, with its parameters.
@@ -16,6 +16,10 @@ pub enum Asked {
     Say(Noted),
     /// `GET /line/state`: whether the machine may work.
     State(Id),
+    /// `GET /line/book` and `/line/undecided`: these entries.
+    Book(Wanted),
+    /// `GET /line/counts`: how many commands and entries there are.
+    Counts,
 }
 
 /// Reads a request to a route: its method, then its parameters.
@@ -44,5 +48,11 @@ fn read_parameters(alloc: Global, route: Route, query: &[u8]) -> Result<Asked, A
             let machine = id_in(alloc, query, Parameter::Machine)?;
             Ok(Asked::State(machine))
         }
+        Route::Book => {
+            let number = number_in(alloc, query, Parameter::After)?;
+            Ok(Asked::Book(Wanted::After(number)))
+        }
+        Route::Undecided => Ok(Asked::Book(Wanted::Undecided)),
+        Route::Counts => Ok(Asked::Counts),
     }
 }

@@ -12,6 +12,9 @@ pub enum Route {
     Holds,
     Releases,
     State,
+    Book,
+    Undecided,
+    Counts,
 }
 
 impl Route {
@@ -21,7 +24,7 @@ impl Route {
     {
         match self {
             Route::Decisions | Route::Holds | Route::Releases => Method::Post,
-            Route::State => Method::Get,
+            Route::State | Route::Book | Route::Undecided | Route::Counts => Method::Get,
         }
     }
 }
@@ -38,6 +41,12 @@ pub fn route_of(path: &[u8]) -> Option<Route>
         Some(Route::Releases)
     } else if path == "/line/state".as_bytes() {
         Some(Route::State)
+    } else if path == "/line/book".as_bytes() {
+        Some(Route::Book)
+    } else if path == "/line/undecided".as_bytes() {
+        Some(Route::Undecided)
+    } else if path == "/line/counts".as_bytes() {
+        Some(Route::Counts)
     } else {
         None
     }

@@ -13,7 +13,7 @@ use std::alloc::Global;
 use std::test::Fail;
 
 /// Requests of one connection, each with its body, and the status and body of its answer.
-const CALLS: [(&str, &str, &str, &str); 11] = [
+const CALLS: [(&str, &str, &str, &str); 15] = [
     (
         "POST /messages",
         r#"{"MessageName":"TraceDesk.PartDefined","UniqueID":"u1","Source":"S","TimeStamp":"2026-03-01T06:00:00Z","MessageBody":{"PartNumber":"P"}}"#,
@@ -84,6 +84,30 @@ const CALLS: [(&str, &str, &str, &str); 11] = [
         "404 Not Found",
         r#"{"Answer":"NotFound","Kind":"Machine"}"#,
     ),
+    (
+        "GET /line/undecided",
+        "",
+        "200 OK",
+        "n,after,kind,source,uid,machine,slot,board,reel,word,of,told,state\n2,3,unread,,,,,,,BodyMember,0,\"{\"\"MessageName\"\":\"\"TraceDesk.MaterialsLoaded\"\",\"\"UniqueID\"\":\"\"u6\"\",\"\"Source\"\":\"\"S\"\",\"\"TimeStamp\"\":\"\"2026-03-01T06:03:00Z\"\",\"\"MessageBody\"\":{\"\"Machine\"\":\"\"M1\"\",\"\"Slot\"\":\"\"1\"\"}}\",undecided\n",
+    ),
+    (
+        "GET /line/book?after=3",
+        "",
+        "200 OK",
+        "n,after,kind,source,uid,machine,slot,board,reel,word,of,told,state\n",
+    ),
+    (
+        "GET /line/book",
+        "",
+        "400 Bad Request",
+        r#"{"Answer":"Faulty","Fault":"BadQuery","Member":"after"}"#,
+    ),
+    (
+        "GET /line/counts",
+        "",
+        "200 OK",
+        r#"{"Answer":"Counts","Commands":3,"Entries":3,"Open":0,"Undecided":1}"#,
+    ),
 ];
 
 /// Returns the bytes of the requests, and those of their answers.
@@ -130,7 +154,7 @@ fn answered<S: Alter>(
     }
 }
 
-/// Messages, a file, a report, a decision and states are answered by the lists that those before them
+/// Messages, a file, a report, a decision, states and the book are answered by the lists that those before them
 /// left.
 #[test]
 fn both_kinds_of_routes(rt: HostRuntime) -> Result<(), Fail> {
@@ -142,7 +166,7 @@ fn both_kinds_of_routes(rt: HostRuntime) -> Result<(), Fail> {
             let _ = store.into_connection().close();
             let served = served.ok_or("a fault")?;
             assert_eq!(rt; sent.taken.as_slice(), answers.as_slice());
-            assert_eq!(rt; (served.answered, served.refused), (11, 4));
+            assert_eq!(rt; (served.answered, served.refused), (15, 5));
             Ok(())
         }
         Err(_) => Err(Fail::from("no desk")),

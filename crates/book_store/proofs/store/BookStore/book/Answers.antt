@@ -1,5 +1,5 @@
 use Rattle.desk_types.proofs.Common.{◌∙◌, ◌≡◌, ap, map}
-use Rattle.line_answers.specs.Book.{book_text}
+use Rattle.line_answers.specs.Book.{book_text, written_row}
 use Rattle.line_book.specs.Guard.{IsGuard}
 use Rattle.line_book_store.specs.{Book.entry_columns, Reading.window}
 use Rattle.book_store.proofs.Loading.{some_there}
@@ -16,7 +16,7 @@ returns-clause-text g c L was clean own =
     let found = c.in_ok-rows.ensures.window L was clean own
     ∙ ap (λ n. map entry_columns (window n c.last_entry-last.result L.rows)) c.before_wanted.ensures
     ∙ ap (λ n. map entry_columns (window (before_wanted wanted) n L.rows)) (c.last_entry-last.ensures L was) in
-    let told : c.in_ok-book_text.field-0 ≡ book_text H L.notes wanted c.as_slice.result.now =
+    let told : c.in_ok-book_text.field-0 ≡ book_text H L.notes wanted (map written_row c.as_slice.result.now) =
     c.in_ok-book_text.ensures H L.notes (c.open_notes.ensures H L.notes guard) (c.undecided.ensures H L.notes guard) in
-    told ∙ ap (book_text H L.notes wanted) c.as_slice.ensures.value
+    told ∙ ap (λ rows. book_text H L.notes wanted (map written_row rows)) c.as_slice.ensures.value
     ∙ text_read L c.args.self.now.reading was.read wanted c.in_ok-rows.rows.items found
