@@ -18,6 +18,7 @@ from tracedesk_dev.case_steps import SECONDS_FOR_A_RUN, SECONDS_FOR_AN_ANSWER
 from tracedesk_dev.case_steps import compare, compare_end, limited, next_line, wanted_of, words_of
 from tracedesk_dev.ports import lent
 from tracedesk_dev.trial import Difference
+from tracedesk_ops import plant
 
 Connection = tuple[Sequence[bytes], Sequence[bytes], bool]  # pieces, answers, and whether by turns
 
@@ -252,7 +253,33 @@ def serve(program: str, step: Step, bytes_of: BytesOf, work: pathlib.Path) -> No
         (pieces if by_turns else [b"".join(pieces)], answers, by_turns)
         for pieces, answers in connections
     ]
+    by_both_lists(program, step, words, whole, work)
     take_connections(program, step, words, whole, work)
+
+
+def by_both_lists(
+    program: str,
+    step: Step,
+    words: list[str],
+    connections: Sequence[Connection],
+    work: pathlib.Path,
+) -> None:
+    """The same connections to tracedesk-line, on a copy of the desk: each answer has the same
+    bytes. It makes desks up to the greatest number alone, and takes no table of others before its
+    book.
+    """
+    file, line = words[words.index("--db") + 1], plant.next_to(program, "line")
+    if not line or "--greatest" in words or "others" in step:
+        return
+    for copied in work.glob("both*"):
+        copied.unlink()
+    if (work / file).exists():
+        shutil.copyfile(work / file, work / "both")
+    of_copy = ["both" if it == file else it for it in words]
+    try:
+        take_connections(line, step, of_copy, connections, work)
+    except Difference as difference:
+        raise Difference(f"of tracedesk-line: {difference}")
 
 
 def reports(program: str, step: Step, bytes_of: BytesOf, work: pathlib.Path) -> None:
@@ -277,4 +304,5 @@ def reports(program: str, step: Step, bytes_of: BytesOf, work: pathlib.Path) -> 
     status = 0 if all("csv" in it for it in answers) else 1
     words = ["serve", "--db", step["reports"]]
     served = {"serve": words, "connections": [connection], "status": status}
+    served |= {"others": step["others"]} if "others" in step else {}
     serve(program, served, bytes_of, work)

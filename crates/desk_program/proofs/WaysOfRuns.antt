@@ -155,7 +155,7 @@ module _ {R W E : Type 0} {ways ways' : Ways} (to : Follows ways ways') {holds :
 
 -- ---- printed texts
 
-one_more : {A B : Type 0} (before after : ℕ) → ((after ≡ before) × A) ⊎ ((after ≡ before + 1) × B) → after ≤ before + 1
+pub one_more : {A B : Type 0} (before after : ℕ) → ((after ≡ before) × A) ⊎ ((after ≡ before + 1) × B) → after ≤ before + 1
 one_more before after (inl all) = let same = all.0 in omega (arith, same)
 one_more before after (inr front) = let one = front.0 in omega (arith, one)
 

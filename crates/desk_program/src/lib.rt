@@ -6,4 +6,5 @@ mod system;
 mod whole;
 
 pub use run::{ClosedFiles, program, wordless, words};
+pub use system::SystemClients;
 pub use whole::whole_run;

@@ -26,6 +26,15 @@ pub one_machine_is_enough : told_of
 unfolding told_of clap_on_literals
 one_machine_is_enough = refl
 
-pub another_command_is_none : told_of (codes "serve" ∷ []) ≡ UnknownArgument ∷ InvalidSubcommand ∷ []
+pub serve_is_taken : told_of
+    (codes "serve" ∷ codes "--db" ∷ codes "f" ∷ codes "--port" ∷ codes "8080" ∷ []) ≡ []
+unfolding told_of clap_on_literals
+serve_is_taken = refl
+
+pub serve_wants_a_port : told_of (codes "serve" ∷ codes "--db" ∷ codes "f" ∷ []) ≡ MissingRequiredArgument ∷ []
+unfolding told_of clap_on_literals
+serve_wants_a_port = refl
+
+pub another_command_is_none : told_of (codes "feed" ∷ []) ≡ UnknownArgument ∷ InvalidSubcommand ∷ []
 unfolding told_of clap_on_literals
 another_command_is_none = refl

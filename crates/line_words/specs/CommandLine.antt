@@ -1,16 +1,32 @@
 -- What the words of a command line ask for, by the grammar of `clap`.
-use Rattle.std.specs.Prelude.{◌≡◌, ◌≢◌, ◌⊎◌, ⊤, true, codes, ℕ, List, [], ◌∷◌, Option, Some, None, string_bytes}
+use Rattle.std.specs.Prelude.{◌≡◌, ◌≢◌, ◌≤◌, ◌⊎◌, ⊤, true, codes, ℕ, List, [], ◌∷◌, Option, Some, None, string_bytes}
 use Rattle.clap.specs.Faults.{fault_of}
 use Rattle.clap.specs.Kinds.{Kinds, IsAmong}
-use Rattle.clap.specs.Simple.{App, Shape, new_app, new_shape, on_top, subcommand_of, with_subcommand}
-use Rattle.clap.specs.Walk.{Row, first_of}
+use Rattle.clap.specs.Simple.{App, Shape, new_app, new_rule, new_shape, on_top, subcommand_of, with_subcommand}
+use Rattle.clap.specs.Values.{IsUnsignedIn}
+use Rattle.clap.specs.Walk.{Row, Rule, first_of}
 use Rattle.clap.specs.declared.error.kind.ErrorKind.{ErrorKind}
 use Rattle.desk_types.specs.Id.{IsId, Name}
-use Rattle.desk_words.specs.CommandLine.{IsText, required_option}
+use Rattle.desk_types.specs.declared.limits.TheConstants.{MOST_PORT}
+use Rattle.desk_words.specs.CommandLine.{IsText, Shows, ShowsNone, number_of, required_option}
 use Rattle.line_words.specs.declared.command_line.LineCommand.{LineCommand}
-use Rattle.line_words.specs.declared.command_line.LineCommand.TheVariants.{State, Audit, Text, Bad}
+use Rattle.line_words.specs.declared.command_line.LineCommand.TheVariants.{Serve, State, Audit, Text, Bad}
 
 -- ---- the grammar
+
+-- The option `--connections N`.
+abbrev pub connections_rule : Rule
+connections_rule = record (new_rule (codes "connections")) {
+  long = Some (codes "connections");
+  value_names = 1;
+}
+
+-- `serve` has a file and a port, each exactly once, and may have a number of connections.
+abbrev pub serve_shape : Shape
+serve_shape = record (new_shape (codes "serve")) {
+  rules = required_option (codes "db")
+      ∷ required_option (codes "port") ∷ connections_rule ∷ [];
+}
 
 -- `state` has a file and a machine, each exactly once.
 abbrev pub state_shape : Shape
@@ -33,9 +49,10 @@ bare = on_top (λ s. record s {
   has_version = true;
 }) (new_app (codes "tracedesk-line"))
 
--- The two commands.
+-- The three commands.
 abbrev pub commands : App
-commands = with_subcommand (with_subcommand bare state_shape) audit_shape
+commands =
+    with_subcommand (with_subcommand (with_subcommand bare serve_shape) state_shape) audit_shape
 
 -- The text printed if the arguments are no command: help, the version, or a mistake.
 unfoldable pub told_of : List (List ℕ) → Kinds
@@ -44,6 +61,23 @@ told_of words = fault_of commands words
 -- The command that the arguments name, and the options that were found.
 unfoldable pub named_by : List (List ℕ) → Option (List ℕ × List Row)
 named_by words = subcommand_of commands words
+
+-- ---- the number of connections
+
+-- The greatest number, which is also the number without an option.
+abbrev pub most_connections : ℕ
+most_connections = 4294967295
+
+-- The number is that of the text, or the greatest if there is no text.
+abbrev pub Serves : Option (List ℕ) → ℕ → Type 0
+Serves None connections = connections ≡ most_connections
+Serves (Some text) connections =
+    IsUnsignedIn 1 most_connections text × (connections ≡ number_of text)
+
+-- There is a text, and it is no such number.
+abbrev pub ServesNone : Option (List ℕ) → Type 0
+ServesNone None = ⊥
+ServesNone (Some text) = IsUnsignedIn 1 most_connections text → ⊥
 
 -- ---- meaning
 
@@ -60,6 +94,14 @@ ShowsName (Some text) name = IsId text × (name ≡ text)
 abbrev pub ShowsNoName : Option (List ℕ) → Type 0
 ShowsNoName None = ⊤
 ShowsNoName (Some text) = IsId text → ⊥
+
+-- The arguments mean: serve this number of connections at this port, by the lists of this file.
+abbrev pub AsksForServing : List (List ℕ) → List ℕ → ℕ → ℕ → Type 0
+AsksForServing words file port connections =
+    (rows : List Row) × Names words (codes "serve") rows
+    × (first_of (codes "db") rows ≡ Some file)
+    × Shows MOST_PORT (first_of (codes "port") rows) port
+    × Serves (first_of (codes "connections") rows) connections
 
 -- The arguments mean: print whether this machine may work, by the lists of this file.
 abbrev pub AsksForState : List (List ℕ) → List ℕ → Name → Type 0
@@ -81,20 +123,27 @@ AsksForText words = (kind : ErrorKind) × IsAmong kind (told_of words) × IsText
 abbrev pub IsMistaken : List (List ℕ) → Type 0
 IsMistaken words = (kind : ErrorKind) × IsAmong kind (told_of words) × (IsText kind → ⊥)
 
+-- A value of `serve` is not valid.
+abbrev pub HasBadServing : List Row → Type 0
+HasBadServing rows = ShowsNone MOST_PORT (first_of (codes "port") rows)
+    ⊎ ServesNone (first_of (codes "connections") rows) ⊎ (first_of (codes "db") rows ≡ None)
+
 -- The grammar accepts the arguments, but a value of the command is not valid.
 abbrev pub HasBadValue : List (List ℕ) → Type 0
 HasBadValue words =
     (rows : List Row)
-    × ((Names words (codes "state") rows
+    × ((Names words (codes "serve") rows × HasBadServing rows)
+    ⊎ (Names words (codes "state") rows
     × ((first_of (codes "db") rows ≡ None) ⊎ ShowsNoName (first_of (codes "machine") rows)))
     ⊎ (Names words (codes "audit") rows × (first_of (codes "db") rows ≡ None)))
 
--- The command is neither of the two.
+-- The command is none of the three.
 abbrev pub IsNoCommand : Option (List ℕ × List Row) → Type 0
 IsNoCommand None = ⊤
-IsNoCommand (Some named) = (named.0 ≢ codes "state") × (named.0 ≢ codes "audit")
+IsNoCommand (Some named) =
+    (named.0 ≢ codes "serve") × (named.0 ≢ codes "state") × (named.0 ≢ codes "audit")
 
--- The grammar accepts the arguments, but they name neither command.
+-- The grammar accepts the arguments, but they name no command.
 abbrev pub NamesNone : List (List ℕ) → Type 0
 NamesNone words = (told_of words ≡ []) × IsNoCommand (named_by words)
 
@@ -104,7 +153,14 @@ AsksForNothing words = IsMistaken words ⊎ NamesNone words ⊎ HasBadValue word
 
 -- The meaning of the arguments.
 abbrev pub Asks : List (List ℕ) → LineCommand → Type 0
+Asks words (Serve file port connections) =
+    AsksForServing words (string_bytes file) port connections
 Asks words (State file machine) = AsksForState words (string_bytes file) machine
 Asks words (Audit file) = AsksForAudit words (string_bytes file)
 Asks words (Text text) = AsksForText words
 Asks words (Bad text) = AsksForNothing words
+
+-- At least one connection is served.
+abbrev pub IsInRange : LineCommand → Type 0
+IsInRange (Serve file port connections) = 1 ≤ connections
+IsInRange _ = ⊤

@@ -3,25 +3,36 @@
 ghost use Rattle.std.specs.Prelude.{◌≡◌, false, map, string_bytes, List, [], ℕ, IfOk, IfSome, IsNone, codes};
 ghost use Rattle.clap.specs.Kinds.{HasKind};
 ghost use Rattle.clap.specs.Matches.{found_of};
-ghost use Rattle.clap.specs.Simple.{app_of, shape_of, subcommand_rows_of, with_rule};
+ghost use Rattle.clap.specs.Simple.{app_of, shape_of, subcommand_rows_of};
 ghost use Rattle.clap.specs.Walk.{first_of, rows_of};
 ghost use Rattle.clap.specs.declared.builder.command.Command.TheViews.{out-Command};
 ghost use Rattle.desk_types.specs.Id.{IsId};
-ghost use Rattle.desk_words.specs.CommandLine.{required_option};
-ghost use Rattle.line_words.specs.CommandLine.{audit_shape, bare, commands, named_by, state_shape, told_of, Asks, Names, ShowsName, ShowsNoName};
+ghost use Rattle.line_words.specs.CommandLine.{audit_shape, bare, commands, named_by, serve_shape, state_shape, told_of, Asks, IsInRange, Names, Serves, ServesNone, ShowsName, ShowsNoName};
 
 use clap::error::ErrorKind;
 use clap::{Arg, ArgMatches};
-use desk_types::Id;
+use desk_types::{Id, MOST_PORT};
+use desk_words::{number_in, numeral, with_wanted};
 use std::alloc::{AllocError, Global};
 
 /// The meaning of a command line.
 #[derive(Drop)]
 pub enum LineCommand {
+    /// Serve connections, one after another.
+    Serve {
+        file: String,
+        port: u16,
+        connections: u32,
+    },
     /// Print whether a machine may work, and each cause why not.
-    State { file: String, machine: Id },
+    State {
+        file: String,
+        machine: Id,
+    },
     /// Check both lists in a file.
-    Audit { file: String },
+    Audit {
+        file: String,
+    },
     /// Print this text, help or the version, on standard output.
     Text(String),
     /// No meaning. This text, for standard error, says why.
@@ -31,19 +42,22 @@ pub enum LineCommand {
 /// The examples and the exit statuses, for the help.
 const NOTES: &str = "\
 Examples:
+  tracedesk-line serve --db line.db --port 8080
   tracedesk-line state --db line.db --machine M1
   tracedesk-line audit --db line.db
 
 Exit status:
-  0  The state was printed, the audit found nothing wrong, or help or the version was asked for
-  1  No sheet names the machine
+  0  Each request was answered 200 or 202, the state was printed, the audit found nothing wrong, or help or the version was asked for
+  1  Some request was answered otherwise, a connection failed, or no sheet names the machine
   2  The command line asks for nothing that the program does
-  3  The line's file was refused, or memory was
-  4  Input or output failed";
+  3  The line's file was refused, or memory was, outside of a request
+  4  Input or output failed, or the port can't be had";
 
 /// Reads the arguments.
 pub fn read_words(alloc: Global, words: &[String]) -> Result<LineCommand, AllocError>
-    ensures { IfOk result (Asks (map string_bytes words.now)) }
+    ensures asks { IfOk result (Asks (map string_bytes words.now)) }
+    // To serve nobody has no meaning.
+    ensures range { IfOk result IsInRange }
 {
     let command = commands(alloc)?;
     match command.try_get_matches_from(words) {
@@ -53,8 +67,9 @@ pub fn read_words(alloc: Global, words: &[String]) -> Result<LineCommand, AllocE
 }
 
 fn help_or_mistake(alloc: Global, error: &clap::Error) -> Result<LineCommand, AllocError>
-    ensures { (words : List (List ℕ)) → HasKind (told_of words) error.now
+    ensures asks { (words : List (List ℕ)) → HasKind (told_of words) error.now
         → IfOk result (Asks words) }
+    ensures range { IfOk result IsInRange }
 {
     if error.kind() == ErrorKind::OutOfMemory {
         return Err(AllocError);
@@ -68,21 +83,46 @@ fn help_or_mistake(alloc: Global, error: &clap::Error) -> Result<LineCommand, Al
 }
 
 fn command_of(alloc: Global, matches: &ArgMatches<'_>) -> Result<LineCommand, AllocError>
-    ensures { (words : List (List ℕ)) → told_of words ≡ []
+    ensures asks { (words : List (List ℕ)) → told_of words ≡ []
         → subcommand_rows_of matches.now ≡ named_by words
         → IfOk result (Asks words) }
+    ensures range { IfOk result IsInRange }
 {
     match matches.subcommand() {
+        Some((name, found)) if name == "serve" => serve_of(alloc, found),
         Some((name, found)) if name == "state" => state_of(alloc, found),
         Some((name, found)) if name == "audit" => audit_of(alloc, found),
         _ => Ok(LineCommand::Bad(no_command(alloc)?)),
     }
 }
 
+fn serve_of(alloc: Global, found: &ArgMatches<'_>) -> Result<LineCommand, AllocError>
+    ensures asks { (words : List (List ℕ))
+        → Names words (codes "serve") (rows_of (found_of found.now))
+        → IfOk result (Asks words) }
+    ensures range { IfOk result IsInRange }
+{
+    let Some(port) = number_in(found, "port", MOST_PORT) else {
+        return Ok(LineCommand::Bad(no_number(alloc, "port", MOST_PORT)?));
+    };
+    let Some(connections) = connections_in(found) else {
+        return Ok(LineCommand::Bad(no_number(alloc, "connections", u32::MAX)?));
+    };
+    match found.get_str("db") {
+        Some(file) => Ok(LineCommand::Serve {
+            file: String::from_str(alloc, file)?,
+            port: port as u16,
+            connections,
+        }),
+        None => Ok(LineCommand::Bad(no_value(alloc)?)),
+    }
+}
+
 fn state_of(alloc: Global, found: &ArgMatches<'_>) -> Result<LineCommand, AllocError>
-    ensures { (words : List (List ℕ))
+    ensures asks { (words : List (List ℕ))
         → Names words (codes "state") (rows_of (found_of found.now))
         → IfOk result (Asks words) }
+    ensures range { IfOk result IsInRange }
 {
     match (found.get_str("db"), machine_in(found)) {
         (Some(file), Some(machine)) => Ok(LineCommand::State {
@@ -94,15 +134,29 @@ fn state_of(alloc: Global, found: &ArgMatches<'_>) -> Result<LineCommand, AllocE
 }
 
 fn audit_of(alloc: Global, found: &ArgMatches<'_>) -> Result<LineCommand, AllocError>
-    ensures { (words : List (List ℕ))
+    ensures asks { (words : List (List ℕ))
         → Names words (codes "audit") (rows_of (found_of found.now))
         → IfOk result (Asks words) }
+    ensures range { IfOk result IsInRange }
 {
     match found.get_str("db") {
         Some(file) => Ok(LineCommand::Audit {
             file: String::from_str(alloc, file)?,
         }),
         None => Ok(LineCommand::Bad(no_value(alloc)?)),
+    }
+}
+
+/// Returns how many connections are served: without the option, 4,294,967,295.
+fn connections_in(found: &ArgMatches<'_>) -> Option<u32>
+    ensures some { IfSome result
+        (Serves (first_of (codes "connections") (rows_of (found_of found.now)))) }
+    ensures none { IsNone result
+        → ServesNone (first_of (codes "connections") (rows_of (found_of found.now))) }
+{
+    match found.get_str("connections") {
+        Some(text) => numeral(text, u32::MAX),
+        None => Some(u32::MAX),
     }
 }
 
@@ -134,6 +188,12 @@ fn no_value(alloc: Global) -> Result<String, AllocError> {
     String::from_str(alloc, "error: a value is required for '--db <FILE>'\n")
 }
 
+fn no_number(alloc: Global, name: &str, most: u32) -> Result<String, AllocError> {
+    format!(in alloc;
+        "error: invalid value for '--{name} <N>': it is no number from 1 to {most}\n\nFor more information, try '--help'.\n"
+    )
+}
+
 fn no_machine(alloc: Global) -> Result<String, AllocError> {
     String::from_str(
         alloc,
@@ -145,7 +205,8 @@ fn commands<'a>(alloc: Global) -> Result<clap::Command<'a>, AllocError>
     ensures { IfOk result (λ command. app_of command ≡ commands) }
 {
     let program = bare(alloc)?;
-    let with_state = program.subcommand(state(alloc)?)?;
+    let with_serve = program.subcommand(serve(alloc)?)?;
+    let with_state = with_serve.subcommand(state(alloc)?)?;
     with_state.subcommand(audit(alloc)?)
 }
 
@@ -153,7 +214,9 @@ fn bare<'a>(alloc: Global) -> Result<clap::Command<'a>, AllocError>
     ensures { IfOk result (λ command. app_of command ≡ bare) }
 {
     let program = clap::Command::new(alloc, "tracedesk-line")
-        .about("Say whether a machine of a line may work, by the history and the book of its file")
+        .about(
+            "Serve a line by the history and the book of its file, and say whether its machines may work",
+        )
         .version("1.0.0")
         .after_help(NOTES)
         .bin_name("tracedesk-line")?
@@ -161,6 +224,28 @@ fn bare<'a>(alloc: Global) -> Result<clap::Command<'a>, AllocError>
         .disable_help_subcommand(true)
         .subcommand_required(true);
     Ok(program)
+}
+
+fn serve<'a>(alloc: Global) -> Result<clap::Command<'a>, AllocError>
+    ensures shape { IfOk result (λ command. shape_of command ≡ serve_shape) }
+    ensures local { IfOk result (λ command. (out-Command command).has_globals ≡ false) }
+{
+    let start = clap::Command::new(alloc, "serve")
+        .about("Answer requests over HTTP on 127.0.0.1, one connection after the other")
+        .after_help(NOTES);
+    let kept = with_wanted(
+        alloc,
+        start,
+        "db",
+        "FILE",
+        "Keep the line in FILE; where FILE isn't there or is empty, make it",
+    )?;
+    let bound = with_wanted(alloc, kept, "port", "N", "The port, from 1 to 65535")?;
+    let option = Arg::new(alloc, "connections")
+        .long("connections")
+        .value_name("N")
+        .help("How many connections are served, from 1 to 4294967295, the default");
+    bound.arg(option)
 }
 
 fn state<'a>(alloc: Global) -> Result<clap::Command<'a>, AllocError>
@@ -194,25 +279,4 @@ fn audit<'a>(alloc: Global) -> Result<clap::Command<'a>, AllocError>
         "FILE",
         "The file of the line, which nobody serves",
     )
-}
-
-/// The command with one more option, which is required.
-fn with_wanted<'a>(
-    alloc: Global,
-    command: clap::Command<'a>,
-    name: &'a str,
-    value: &'a str,
-    help: &'a str,
-) -> Result<clap::Command<'a>, AllocError>
-    requires local { (out-Command command).has_globals ≡ false }
-    ensures shape { IfOk result
-        (λ new. app_of new ≡ with_rule (app_of command.entry) (required_option name.now)) }
-    ensures local { IfOk result (λ new. (out-Command new).has_globals ≡ false) }
-{
-    let option = Arg::new(alloc, name)
-        .long(name)
-        .value_name(value)
-        .help(help)
-        .required(true);
-    command.arg(option)
 }

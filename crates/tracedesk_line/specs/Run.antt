@@ -1,43 +1,77 @@
 -- The end of a run, by the command that its arguments ask for.
-use Rattle.std.specs.Prelude.{◌≡◌, ◌⊎◌, ℕ, List, Option, None, string_bytes}
+use Rattle.std.specs.Prelude.{◌≡◌, ◌⊎◌, ◌<◌, ◌+◌, ◌^◌, ℕ, List, Option, None, string_bytes}
 use Rattle.sqlite_disk.specs.declared.Disk as disk
 use Rattle.sqlite_disk.specs.declared.Files.{Files}
 use Rattle.sqlite_wal.specs.Recovery.{Image}
 use Rattle.desk_types.specs.declared.wire.Wire.{Wire}
-use Rattle.desk_commands.specs.Ends.{PrintEnds, ReportEnds}
+use Rattle.desk_types.specs.Wire.{failures_of}
+use Rattle.desk_commands.specs.Clients.{Serving}
+use Rattle.desk_commands.specs.Closed.{failed, whole}
+use Rattle.desk_commands.specs.Connections.{AnswersInTurn}
+use Rattle.desk_commands.specs.Ends.{PrintEnds, ReportEnds, ServingEnds}
 use Rattle.desk_commands.specs.Told.{unavailable_line, Tells, TellsLine}
+use Rattle.line_http.specs.Rule.{line_rule}
 use Rattle.line_commands.specs.Ends.{AnswersState, Counts, HasNoLine, counts_line}
-use Rattle.line_words.specs.CommandLine.{Asks}
+use Rattle.line_commands.specs.Serving.{ClosesLists, HasNoLists, ServesLists}
+use Rattle.line_commands.specs.declared.left.LineLeft.{LineLeft}
+use Rattle.line_words.specs.CommandLine.{Asks, AsksForServing}
 use Rattle.line_words.specs.declared.command_line.LineCommand.{LineCommand}
-use Rattle.line_words.specs.declared.command_line.LineCommand.TheVariants.{State, Audit, Text, Bad}
+use Rattle.line_words.specs.declared.command_line.LineCommand.TheVariants.{Serve, State, Audit, Text, Bad}
 
--- The end of this command. `writes` and `tells` give the bytes sent to a writer, if known.
-abbrev pub EndsAs : {F W E : Type 0} → disk.Ghosts F → Image → (W → Option (List ℕ))
-    → (E → Option (List ℕ)) → Wire W → Wire W → Wire E → Wire E → Option (Files F) → ℕ
-    → LineCommand → Type 0
--- The answer about the machine by both lists that the file held, or the fault of one.
-EndsAs g image writes tells output output' errors errors' files exit (State file machine) =
-    ReportEnds writes tells output output' errors errors' (AnswersState g image files machine)
-    (HasNoLine g image files tells errors errors') exit
--- The lengths of both lists that the file held, or the fault of one.
-EndsAs g image writes tells output output' errors errors' files exit (Audit file) =
-    (commands : ℕ) × (entries : ℕ)
-    × PrintEnds writes tells output output' errors errors' (counts_line commands entries)
-    (HasNoLine g image files tells errors errors') exit
-    × ((exit ≡ 0) ⊎ (exit ≡ 4) → Counts g image files commands entries)
--- Help or the version.
-EndsAs g image writes tells output output' errors errors' files exit (Text text) = (files ≡ None)
-    × PrintEnds writes tells output output' errors errors' (string_bytes text) ⊥ exit
--- The arguments have no meaning, and standard error says why.
-EndsAs g image writes tells output output' errors errors' files exit (Bad text) = (exit ≡ 2)
-    × (files ≡ None) × (output' ≡ output) × Tells tells errors errors' (string_bytes text)
+-- The counts of the wires have room for a run, and for the line that a failed close prints.
+pub record HaveRoom {W E : Type 0} (output : Wire W) (errors : Wire E) : Type 0 where
+  pub write_failures : failures_of output < 2 ^ 63
+  pub error_failures : failures_of errors + 1 < 2 ^ 63
 
--- A run with these arguments ends as their command does. Or memory was refused before.
-abbrev pub Ends : {F W E : Type 0} → disk.Ghosts F → Image → (W → Option (List ℕ))
-    → (E → Option (List ℕ)) → List (List ℕ) → Wire W → Wire W → Wire E → Wire E
-    → Option (Files F) → ℕ → Type 0
-Ends g image writes tells words output output' errors errors' files exit =
-    ((command : LineCommand) × Asks words command
-    × EndsAs g image writes tells output output' errors errors' files exit command)
-    ⊎ ((exit ≡ 3) × (files ≡ None) × (output' ≡ output)
-    × TellsLine tells errors errors' unavailable_line)
+-- The arguments ask to serve a line.
+abbrev pub AsksToServe : List (List ℕ) → Type 0
+AsksToServe words = (file : List ℕ) × (port : ℕ) × (connections : ℕ)
+    × AsksForServing words file port connections
+
+-- What a server left open was closed, after this status. Or a close failed: then the status is 3, and Unavailable was
+-- printed, unless a fault was before.
+abbrev pub ClosesAs : {D E : Type 0} {g : disk.Ghosts D} → (E → Option (List ℕ)) → ℕ → LineLeft D g
+    → Wire E → Wire E → Option (Files D) → ℕ → Type 0
+ClosesAs tells status left told errors' files exit =
+    (ClosesLists whole left files × (exit ≡ status) × (errors' ≡ told))
+    ⊎ (ClosesLists failed left files × (exit ≡ 3)
+    × (((status ≡ 3) × (errors' ≡ told)) ⊎ TellsLine tells told errors' unavailable_line))
+
+-- A run on files with these contents. `serves` gives the connections on a port, and `writes` and `tells` the bytes sent
+-- to a writer, if known.
+module _ {F W E : Type 0} (g : disk.Ghosts F) (image : Image) (serves : ℕ → Serving → Type 0)
+    (writes : W → Option (List ℕ)) (tells : E → Option (List ℕ)) (words : List (List ℕ))
+    (output output' : Wire W) (errors errors' : Wire E) (files : Option (Files F)) (exit : ℕ) where
+  -- The connections on the port were served by both lists of the file, which was then closed.
+  abbrev pub EndsServing : ℕ → ℕ → Type 0
+  EndsServing port connections = (left : LineLeft F g) × (status : ℕ) × (told : Wire E)
+      × ServingEnds writes tells output output' errors told connections (serves port)
+      (λ es. ServesLists image left (AnswersInTurn line_rule es))
+      (HasNoLists image left tells errors told) status
+      × ClosesAs tells status left told errors' files exit
+
+  -- The end of this command.
+  abbrev pub EndsAs : LineCommand → Type 0
+  EndsAs (Serve file port connections) = EndsServing port connections
+  -- The answer about the machine by both lists that the file held, or the fault of one.
+  EndsAs (State file machine) =
+      ReportEnds writes tells output output' errors errors' (AnswersState g image files machine)
+      (HasNoLine g image files tells errors errors') exit
+  -- The lengths of both lists that the file held, or the fault of one.
+  EndsAs (Audit file) =
+      (commands : ℕ) × (entries : ℕ)
+      × PrintEnds writes tells output output' errors errors' (counts_line commands entries)
+      (HasNoLine g image files tells errors errors') exit
+      × ((exit ≡ 0) ⊎ (exit ≡ 4) → Counts g image files commands entries)
+  -- Help or the version.
+  EndsAs (Text text) = (files ≡ None)
+      × PrintEnds writes tells output output' errors errors' (string_bytes text) ⊥ exit
+  -- The arguments have no meaning, and standard error says why.
+  EndsAs (Bad text) = (exit ≡ 2)
+      × (files ≡ None) × (output' ≡ output) × Tells tells errors errors' (string_bytes text)
+
+  -- A run with these arguments ends as their command does. Or memory was refused before.
+  abbrev pub Ends : Type 0
+  Ends = ((command : LineCommand) × Asks words command × EndsAs command)
+      ⊎ ((exit ≡ 3) × (files ≡ None) × (output' ≡ output)
+      × TellsLine tells errors errors' unavailable_line)

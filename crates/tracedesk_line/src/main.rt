@@ -1,10 +1,11 @@
-//! The program that says whether a machine of a line may work, and checks both lists of a line's file.
+//! The program that serves a line by both lists of its file, says whether a machine may work, and checks the lists.
 #![tactic(auto)]
 
 mod run;
 
 use crate::run::run;
 use desk_commands::{tell_line, unavailable};
+use desk_program::SystemClients;
 use desk_types::Wire;
 use desk_words::words_behind_name;
 use sqlite::Unknown;
@@ -23,6 +24,13 @@ fn main(rt: HostRuntime) -> ExitCode {
         return ExitCode::from(unavailable(&mut errors));
     };
     let mut output = Wire::new(rt.stdout());
-    let (status, _files) = run(&rt, words.as_slice(), Unknown, &mut output, &mut errors);
+    let (status, _files) = run(
+        &rt,
+        words.as_slice(),
+        Unknown,
+        &mut SystemClients::new(&rt),
+        &mut output,
+        &mut errors,
+    );
     ExitCode::from(status)
 }

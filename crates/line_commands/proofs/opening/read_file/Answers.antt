@@ -1,6 +1,6 @@
 use Rattle.desk_types.proofs.Common.{ap, inl, inr}
 use Rattle.line_file.specs.declared.fault.ListFault.TheVariants.{History}
-use Rattle.line_commands.proofs.Lists.{fault-at, line-at}
+use Rattle.line_commands.proofs.ListsRead.{fault-at, line-at}
 use Rattle.line_commands.proofs.opening.read_file.Goals as goal
 
 pub returns-in-Ok-clause-lists : goal.returns-in-Ok-clause-lists

@@ -1,6 +1,6 @@
 use Rattle.desk_types.proofs.Common.{inl}
 use Rattle.desk_commands.proofs.EndsOfRuns.{report_follows, report_refused}
-use Rattle.line_commands.proofs.Lists.{err-of, no-line, some-of}
+use Rattle.line_commands.proofs.ListsRead.{err-of, no-line, some-of}
 use Rattle.line_commands.proofs.state.tell_state.Goals as goal
 
 pub returns-in-Ok-clause-ends : goal.returns-in-Ok-clause-ends

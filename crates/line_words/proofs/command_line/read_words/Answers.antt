@@ -20,18 +20,18 @@ reads app words found is fails finds = (
   (finds (ap is_simple is ∙ is_known.1)).1 ∙ ap (λ (a : App). subcommand_of a words) is,
 )
 
-pub returns-in-Ok : goal.returns-in-Ok
-returns-in-Ok c =
+pub returns-in-Ok-clause-asks : goal.returns-in-Ok-clause-asks
+returns-in-Ok-clause-asks c =
     let is : app_of c.in_ok-command.command ≡ commands = search rules in
     let words = map string_bytes c.args.words.now in
     let says = reads _ words c.in-Ok.matches is c.in-Ok.ensures.kinds c.in-Ok.ensures.matches in
-    c.command_of.ensures words says.0 says.1
+    c.command_of.ensures.asks words says.0 says.1
 
-pub returns-in-Err : goal.returns-in-Err
+pub returns-in-Err-clause-asks : goal.returns-in-Err-clause-asks
 unfolding told_of
-returns-in-Err c =
+returns-in-Err-clause-asks c =
     let is : app_of c.in_ok-command.command ≡ commands = search rules in
     let words = map string_bytes c.args.words.now in
-    c.help_or_mistake.ensures words
+    c.help_or_mistake.ensures.asks words
     (subst (λ (a : App). HasKind (fault_of a words) c.in-Err.error) is
     (c.in-Err.ensures.kinds (ap is_simple_and_free is ∙ is_known.0)))
