@@ -21,10 +21,11 @@ The parts, all of them where none is named:
           may be anything. Also while the file is opened again after that, and after a sync that
           failed, whose writes may be lost for good.
 
-It runs `feed` (with a file, and in memory), the two imports, `migrate`, `audit`, `serve` and
-`report` on worked cases. Of more than --most points in one of these a seeded choice is taken. A run
-goes on undisturbed, and before each point a copy of its process is made, with copies of its files,
-in which the call fails. The connection of `serve` is a pair of files. After each failure:
+It runs `feed` (with a file, and in memory), the two imports, `migrate`, `audit`, `serve`, `report`
+and `tracedesk-line serve` on worked cases. Of more than --most points in one of these a seeded
+choice is taken. A run goes on undisturbed, and before each point a copy of its process is made,
+with copies of its files, in which the call fails. The connection of `serve` is a pair of files.
+After each failure:
   - the answers are those of an undisturbed run of the lines that were not answered Unavailable, and
     the last of them may be cut; the status and the messages are the ones for such a failure;
   - `audit` says lawful, and the tables are those of the lines that were answered, or of one more
@@ -61,6 +62,7 @@ from tracedesk_dev.fault_judging import stopped
 from tracedesk_dev.fault_stories import EVER, Rooms, Seen, Story
 from tracedesk_dev.fault_points import cut, disk, kill, memory, power, wire
 from tracedesk_dev.fault_cases import stories
+from tracedesk_ops import plant
 
 Tried = tuple[int, Seen, list[str]]  # how many points, what was seen, and what was found
 BATCH = 250  # points of one run
@@ -264,6 +266,12 @@ def main(asked: argparse.Namespace, reader: argparse.ArgumentParser) -> int:
     asked.program, begun = program.to_use(asked.program), time.monotonic()
     told = subprocess.run([asked.program, "--help"], capture_output=True, text=True).stdout
     asked.commands = re.findall(r"^  ([a-z-]+) ", told, re.M)
+    asked.line = plant.next_to(asked.program, "line")
+    if asked.line:
+        asked.commands.append("line")
+    else:
+        why = f"tracedesk-line is not next to {asked.program}: dev/build --line, or LINE=FILE"
+        print(f"skipped: {why}", flush=True)
     points: Seen = collections.Counter()
     ends: Seen = collections.Counter()
     with tempfile.TemporaryDirectory(prefix="calls-", dir=asked.folder) as folder:

@@ -92,6 +92,40 @@ def served(asked: argparse.Namespace, case: str, targets: Sequence[str]) -> Stor
     return Served(asked, f"serve {case}", ["serve", "--db", "desk"], parts, wanted=wanted)
 
 
+def asking(target: str, body: bytes | None = None) -> bytes:
+    """A request."""
+    if body is None:
+        return b"GET %s HTTP/1.1\r\n\r\n" % target.encode()
+    head = b"POST %s HTTP/1.1\r\nContent-Length: %d\r\n\r\n" % (target.encode(), len(body))
+    return head + body
+
+
+def heard(asked: argparse.Namespace, case: str) -> Story:
+    """A case's messages to `tracedesk-line serve`. Before the last one, which loads a reel, come
+    some that the desk doesn't accept, and a decision and a hold; then the line is asked.
+    """
+    feeding = fed(asked, case)
+    assert feeding.wanted
+    json_form = b"application/json"
+    its = [
+        (asking("/messages", line[:-1]), spelled(b"200 OK", json_form, told))
+        for line, told in zip(feeding.parts, feeding.wanted)
+    ]
+    its[-1:-1] = [
+        (asking(target, body), spelled(status, json_form, told))
+        for target, body, status, told in BESIDE
+    ]
+    its += [
+        (asking(target), spelled(b"200 OK", form, told))
+        for target, form, told in ((STATE, json_form, STOPPED), (UNDECIDED, b"text/csv", WAITING))
+    ]
+    parts, wanted = map(list, zip(*its))
+    words = ["serve", "--db", "desk"]
+    story = Served(asked, f"line serve {case}", words, parts, wanted=wanted)
+    story.program = asked.line
+    return story
+
+
 def of_version_1(asked: argparse.Namespace, case: str) -> Files:
     """The file of version 1 that a case makes by SQL."""
     with tempfile.TemporaryDirectory(dir=asked.rooms.folder) as folder:
@@ -103,6 +137,50 @@ def of_version_1(asked: argparse.Namespace, case: str) -> Files:
         return {"desk": file.read_bytes()}
 
 
+def said(uid: str, word: str, **body: str) -> bytes:
+    """A message at the machine of first_run."""
+    envelope = {"MessageName": f"TraceDesk.{word}", "UniqueID": uid, "Source": "S"}
+    its = envelope | {"TimeStamp": "1970-01-01T00:00:00Z", "MessageBody": {"Machine": "M", **body}}
+    return json.dumps(its).encode()
+
+
+def refused(uid: str, at: str, word: str) -> tuple[bytes, bytes]:
+    """The status and the answer of such a message."""
+    its = {"Answer": "Refused", "At": at, "Refusal": word, "UniqueID": uid}
+    return b"409 Conflict", json.dumps(its, separators=(",", ":")).encode()
+
+
+SAID = b'"By":"A. Person","Reason":"looked at"}'
+UNREAD = b'{"Answer":"Faulty","Fault":"EnvelopeMember","Member":"MessageName"}'
+# What is sent beside first_run, with its answers: entries 1, 2, none again, 3, 4 and 5
+BESIDE = (
+    ("/messages", said("v1", "MaterialsLoaded", Slot="1", Reel="K9"))
+    + refused("v1", "K9", "UnknownReel"),
+    ("/messages", said("v2", "WorkStarted", Board="B1")) + refused("v2", "1", "SlotEmpty"),
+    ("/messages", said("v3", "WorkStarted", Board="B1")) + refused("v3", "1", "SlotEmpty"),
+    ("/messages", b'{"MessageName":7}', b"400 Bad Request", UNREAD),
+    (
+        *("/line/decisions", b'{"Of":1,"Became":"gone",' + SAID),
+        *(b"200 OK", b'{"Answer":"Decided","Entry":4}'),
+    ),
+    (
+        *("/line/holds", b'{"Hold":"reel","Name":"K1",' + SAID),
+        *(b"200 OK", b'{"Answer":"Held","Entry":5}'),
+    ),
+)
+STATE, UNDECIDED = "/line/state?machine=M", "/line/undecided"
+STOPPED = (
+    b'{"Answer":"State","Board":null,"Causes":[{"Cause":"NoWork"},{"Cause":"Open","Entry":2,'
+    b'"Kind":"work","Reel":null,"Refusal":"SlotEmpty","Slot":"1"},{"Cause":"Held","Entry":5,'
+    b'"Reel":"K1","Slot":"1"}],"Machine":"M","Number":5,"State":"stop"}'
+)
+WAITING = b"n,after,kind,source,uid,machine,slot,board,reel,word,of,told,state\n" + b"".join(
+    b'%d,4,%s,%s,"%s",%s\n' % (number, kind, fields, told.replace(b'"', b'""'), state)
+    for number, kind, fields, told, state in (
+        (2, b"work", b"S,v2,M,1,B1,,SlotEmpty,0", BESIDE[1][1], b"open"),
+        (3, b"unread", b",,,,,,EnvelopeMember,0", BESIDE[3][1], b"undecided"),
+    )
+)
 REPORTS = {
     "slots": (
         "/slots?machine=M",
@@ -157,6 +235,7 @@ STORIES = (
     ("report trace", MOVED, reporting("trace")),
     ("serve", "first_run", serving("/slots?machine=M")),
     ("serve", MOVED, serving(*TARGETS)),
+    ("line serve", "first_run", heard),
 )
 
 

@@ -1,7 +1,10 @@
 """How a run that met a fault is judged: by its answers, its status and its file."""
+import re
 from typing import Any
 from tracedesk_dev.fault_stories import Files, Got, Seen, Story, tables
 from tracedesk_dev.trial import Difference as Found
+
+KEPT = re.compile(rb'"Answer":"(Accepted|Decided|Held)"')
 
 
 def judge(story: Story, got: Got, files: Files, seen: Seen, may_be_done: bool = True) -> None:
@@ -35,9 +38,9 @@ def judge(story: Story, got: Got, files: Files, seen: Seen, may_be_done: bool = 
 
 def at_hand(story: Story, got: Got) -> list[int]:
     """The parts of which one may be done without an answer that says so: the one behind the last
-    answer, and those that were answered Unavailable since the last that was Accepted."""
-    accepted = (at for at, it in enumerate(got.answers) if b'"Answer":"Accepted"' in it)
-    parts = story.all[max(accepted, default=-1) + 1 : len(got.answers) + 1]
+    answer, and those that were answered Unavailable since the last that was surely kept."""
+    kept = (at for at, it in enumerate(got.answers) if KEPT.search(it))
+    parts = story.all[max(kept, default=-1) + 1 : len(got.answers) + 1]
     answers = dict(enumerate(got.answers))
     return [it for it in parts if it not in answers or story.is_unavailable(answers[it])]
 

@@ -133,7 +133,7 @@ class Story:
     ) -> None:
         self.asked, self.name, self.words, self.parts = asked, name, words, parts
         self.start, self.beside, self.wanted = start or {}, beside or {}, wanted
-        self.has_desk = "--db" in words
+        self.program, self.has_desk = asked.program, "--db" in words
         self.all = tuple(range(len(parts)))
         self.refusals: tuple[bytes, ...] = (UNAVAILABLE,)
         self.cache: dict[Any, Known] = {}
@@ -144,7 +144,7 @@ class Story:
         self, room: pathlib.Path, words: list[str], env: Env = None, **how: Any
     ) -> subprocess.Popen[bytes]:
         at = {word: str(room / word) for word in ("desk", *self.beside)}
-        words = [self.asked.program, *(at.get(word, word) for word in words)]
+        words = [self.program, *(at.get(word, word) for word in words)]
         return subprocess.Popen(words, cwd=room, env=env, **how)
 
     def ran(
