@@ -129,8 +129,7 @@ def test_each_command_has_a_help_with_examples_the_version_and_a_man_page(
         told = run(it, "--help").stdout
         assert re.search(rf"^usage: (?:python3 )?{it.name}\b", told, re.M | re.I), told
         assert it.name == "tracedesk" or "\nexamples:\n" in told.lower(), it.name
-        if "--version" in told:
-            assert run(it, "--version").stdout == f"{it.name} {version}\n"
+        assert run(it, "--version").stdout == f"{it.name} {version}\n"
         page = packages.deb / f"usr/share/man/man1/{it.name}.1.gz"
         env = {**os.environ, "LC_ALL": "C.UTF-8", "MANWIDTH": "200"}
         done = run("man", "--warnings", "-l", page, env=env, stderr=subprocess.PIPE)

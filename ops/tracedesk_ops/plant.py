@@ -309,6 +309,6 @@ class Program:
             said = " ".join((done.stdout + done.stderr).split())
             raise Fault(
                 f"the audit of {file} ended with status {done.returncode}: {said};"
-                " docs/operations.md, 'What is said, and what to do'"
+                " operations-faults.html, 'What is said, and what to do'"
             )
         return int(lawful[1])

@@ -24,7 +24,7 @@ from tracedesk_ops.sealed import FilesFault, Sealed
 
 Path = pathlib.Path
 
-DUE_PIECES = 1_000_000  # docs/operations.md, "The file grows"
+DUE_PIECES = 1_000_000  # docs/operations-daily.md, "The file grows"
 FULL = 0.9  # of the greatest number of commands
 ROOM = 4.2  # times the desk: the sealed file, a copy of it, a desk as large, and the old one's end
 BEGUN = "begun"  # in the unfinished work: the digits of the file that the new desk was begun from

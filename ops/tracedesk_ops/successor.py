@@ -147,7 +147,7 @@ class Successor:
             said = " ".join((done.stdout + done.stderr).split())
             raise plant.Fault(
                 f"the new desk is not taken: tracedesk-chain ended with status {done.returncode}: "
-                f"{said}; docs/operations.md, 'If the desks are not alike'"
+                f"{said}; operations-faults.html, 'If the desks are not alike'"
             )
         plant.without_log(self.path)
         return done.stdout.strip()

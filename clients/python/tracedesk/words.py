@@ -329,7 +329,7 @@ RECORDED: Tuple[str, ...] = (
 # What to do about a refusal, and about a fault.
 REFUSALS: Dict[str, str] = {
     "IdReused": "programmer: give each message a UniqueID of its own. If the message was sent before a roll-over and got no answer, send one ClockSet with its UniqueID, Source and TimeStamp: Accepted means that the archive has the message",
-    "DeskFull": "begin with a new desk (operations.md)",
+    "DeskFull": "begin a new desk by tracedesk-ops rollover (operations-daily.md)",
     "TooFarAhead": "set the sender's clock right; if it is right and the line was idle, send ClockSet first",
     "PartExists": "nothing",
     "UnknownPart": "correct the part number, or define the part",
