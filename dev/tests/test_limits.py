@@ -52,7 +52,7 @@ OTHERS = {
         " station/texts.js station/texts-de.js station/texts-es.js station/texts-zh.js"
     ),
     "LONGEST_LIST": (
-        "crates/desk_types/README.md crates/desk_types/src/count.rt crates/desk_types/src/list.rt"
+        "crates/desk_types/src/count.rt crates/desk_types/src/list.rt"
         " crates/desk_types/src/sheet.rt crates/imports/src/fault.rt crates/imports/src/law.rt"
         " dev/memory-origins.txt docs/files.md docs/messages.md"
     ),
@@ -68,7 +68,7 @@ OTHERS = {
     "MOST_HEADERS": "crates/http_stream/README.md docs/http.md",
     "MOST_PORT": "crates/desk_words/src/command_line.rt packaging/tracedesk@.service",
     "ONE_WRITE": "",
-    "PAGE_SIZE": "crates/desk_file/README.md docs/DECISIONS.md",
+    "PAGE_SIZE": "docs/DECISIONS.md",
 }
 
 

@@ -6,6 +6,7 @@ from typing import Any, Iterator
 from tracedesk_dev import rattle
 
 CODE = re.compile(r"`([^`]+)`")
+TOPIC = re.compile(r"(?://!|--) \S")  # the first line of a source or of a definition file
 NAMED = re.compile(
     r"\[`([^`.\n]+)`\]\(([^)#\s]+\.(?:antt|rt))\)"
 )  # a name, and the file that has it
@@ -96,8 +97,9 @@ def sections(text: str) -> dict[str, str]:
 
 
 def file_faults(text: str, folder: pathlib.Path) -> Iterator[str]:
-    """Files that are named and not there, and files of src/ and specs/ that no table names."""
-    mentioned = set()
+    """Files that are named and not there, and files of src/ and specs/ that don't begin with their
+    topic.
+    """
     for header, cells in rows_of(sections(text).get("Files", "")):
         for place, cell in zip(header, cells):
             kind = place.strip("`/")
@@ -116,10 +118,6 @@ def file_faults(text: str, folder: pathlib.Path) -> Iterator[str]:
                 at = folder.parent / other if other else folder
                 if not list(at.glob(whole)):
                     yield f"{at.name}/{whole} is not there"
-                elif not other:
-                    mentioned |= set(
-                        at.glob(f"{whole}**/*") if whole.endswith("/") else at.glob(whole)
-                    )
     for name, other in re.findall(r"`([^`\s]+)`(?: of `(\w+)`)?", text):
         at = folder.parent / other if other and (folder.parent / other).is_dir() else folder
         if not NAMED_FILE.fullmatch(name):
@@ -137,14 +135,9 @@ def file_faults(text: str, folder: pathlib.Path) -> Iterator[str]:
         ]:
             yield f"{at.name}/{name} is not there"
     wanted = [*(folder / "src").rglob("*.rt"), *(folder / "specs").rglob("*.antt")]
-    quiet = {"lib.rt", "main.rt", "Lib.antt", "tests.rt"}
-    for file in wanted:
-        if (
-            file not in mentioned
-            and file.name not in quiet
-            and "tests" not in file.relative_to(folder).parts
-        ):
-            yield f"no table under 'Files' names {file.relative_to(folder)}"
+    for file in (it for it in wanted if it.name != "Lib.antt"):
+        if not TOPIC.match(file.read_text(encoding="utf-8")):
+            yield f"{file.relative_to(folder)} doesn't begin with a line that says its topic"
 
 
 def contract_faults(text: str, crate: Crate) -> Iterator[str]:
