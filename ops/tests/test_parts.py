@@ -4,6 +4,7 @@ from typing import Any, Iterator
 
 import pytest
 
+from lab.line import table
 from lab import messages
 from lab.desk import log_into_file
 from lab.tools import run
@@ -78,7 +79,8 @@ def test_parts_say_what_the_whole_says(
         answers.append(asked(chain, words, files))
     assert answers[0] == answers[1]
     plain = run([chain, *words, *files]).expect().out
-    assert answers[0].text == plain.replace(f"{files[0].parent}/", "")
+    places = {str(file): number for number, file in enumerate(files)}
+    assert answers[0].rows == [row | {"file": places[row["file"]]} for row in table(plain)]
 
 
 @pytest.mark.parametrize("lacking", range(1, FILES - 1))

@@ -6,9 +6,11 @@ import shutil
 from typing import Any, Callable
 
 import pytest
-from lab.recalls import Asking, lot_of, recall, recalled, state_of
+from lab.recalls import Asking, lot_of, recall, state_of
 from lab.world import World
-from tracedesk_ops import firstlook
+from tracedesk_ops import catalogue, chains
+from tracedesk_ops.firstlook import Piece, Question
+from tracedesk_ops.recalls.recall import Recall
 
 pytestmark = [pytest.mark.xdist_group("recall")]
 
@@ -51,16 +53,15 @@ def test_a_board_lies_in_two(asking: Asking, world: World, column: str) -> None:
 def test_each_end_of_the_chain_program_has_its_answer(
     world: World, folder: pathlib.Path, monkeypatch: pytest.MonkeyPatch, end: str
 ) -> None:
+    """Without an answer no piece is printed."""
     said, told = ENDS[end]
-    words = ["lot", lot_of(world), *world.first.recall_words()]
-    monkeypatch.setenv("CHAIN", str(folder / "none"))
-    by_sql = recalled(*words, "--show", "pieces", status=3)
     stub = folder / "tracedesk-chain"
     stub.write_text(f"#!/bin/sh\necho 'tracedesk-chain: L1-1: {said}' >&2\n{end}\n")
     stub.chmod(0o755)
     monkeypatch.setenv("CHAIN", str(stub))
-    recall(*words).expect(3, told, "NOT COMPLETE")
-    assert recalled(*words, "--show", "pieces", status=3) == by_sql
+    words = ["lot", lot_of(world), *world.first.recall_words()]
+    done = recall(*words).expect(3, told, "NOT COMPLETE")
+    assert done.out.count("\n") == 1
 
 
 def test_without_the_chain_program_a_recall_says_so(
@@ -75,6 +76,14 @@ def test_archives_stay_as_they_are(world: World, folder: pathlib.Path) -> None:
     before = state_of(world)
     recall("lot", lot_of(world), *world.words(), "--evidence", folder / "evidence").expect()
     assert state_of(world) == before
+
+
+def test_a_desk_that_is_a_copy_of_another_lines_is_named(folder: pathlib.Path) -> None:
+    piece = Piece("B1", "C1", "P", "L", "K", "M", "1", "no", 5, "L1", catalogue.RUNNING)
+    its = Recall(Question("lot", "L"), [], chains.Asker("none", []), folder)
+    its.pieces = [piece, piece._replace(line="L2")]
+    its.doubt()
+    assert its.status() == 3 and "desks of L1 and L2 have the same pieces" in its.doubts[0]
 
 
 # --- What changes while it is asked
@@ -112,16 +121,15 @@ def test_a_desk_that_is_put_aside_meanwhile_is_named(
 def test_an_archive_that_changes_meanwhile_is_named(
     faults: Callable[..., list[str]], world: World, monkeypatch: pytest.MonkeyPatch
 ) -> None:
-    file, look = world.first.archived[0], firstlook.told_by
+    file, run_to = world.first.archived[0], chains.run_to
     kept = os.stat(file)
 
-    def touched(database: Any, line: Any, archive: Any, *words: Any) -> Any:
-        if archive.file == file.name:
-            os.utime(file, (1, 1))
-        return look(database, line, archive, *words)
+    def touched(*words: Any) -> Any:
+        os.utime(file, (1, 1))
+        return run_to(*words)
 
-    monkeypatch.setattr(firstlook, "told_by", touched)
+    monkeypatch.setattr(chains, "run_to", touched)
     try:
-        assert faults() == [f"L1: {file}: it was changed while it was asked: ask again"]
+        assert any(f"{file}: it was changed while it was asked" in fault for fault in faults())
     finally:
         os.utime(file, ns=(kept.st_atime_ns, kept.st_mtime_ns))

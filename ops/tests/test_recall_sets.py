@@ -85,8 +85,8 @@ def test_the_evidence_of_a_set_names_its_reels(line: Line, folder: pathlib.Path)
     key = key_in(folder, "plant")
     recall(line, "reel", "K-2", "K-4", "--key", key, "--evidence", to).expect()
     assert (to / "asked-reels.txt").read_text() == "K-2\nK-4\n"
-    chain = json.loads((to / "certificate.json").read_text())["lines"][0]["chain"]
-    assert chain["words"] == ["reels", "asked-reels.txt", "--pieces"]
+    told = json.loads((to / "certificate.json").read_text())["lines"][0]
+    assert told["words"] == ["reels", "asked-reels.txt", "--pieces"] and told["is_chain"]
     again = run_tool("verify", to, "--signers", signers_of(key), "--archives", line.archive)
     again.expect(0, "the answer comes again from its 1 archives")
 

@@ -19,8 +19,7 @@ L1-000001,Customer A,2026-03-05,
 L1-000001,Customer B,2026-04-01,again
 """
 EVIDENCE = """SHA256SUMS asked.csv boards.csv
-    certificate.json chain-1.csv chain-2.csv doubtful.csv pieces.csv question.txt
-    reels.csv shipped.csv untraced.csv""".split()
+    certificate.json doubtful.csv pieces.csv reels.csv shipped.csv untraced.csv""".split()
 FAILS = "from tracedesk_ops import doubts; doubts.look = lambda *_: 1 / 0"
 
 

@@ -16,6 +16,7 @@ and both say the same of it.
 from __future__ import annotations
 
 import concurrent.futures
+import contextlib
 import csv
 import dataclasses
 import os
@@ -25,7 +26,7 @@ import shutil
 import subprocess
 import tempfile
 from collections.abc import Iterable, Iterator, Sequence
-from typing import Any
+from typing import IO, Any
 
 from tracedesk_ops import parts, plant, sealed
 from tracedesk_ops.files import Room
@@ -56,26 +57,19 @@ class End:
 @dataclasses.dataclass(frozen=True)
 class Answer:
     """What the program answered: the rows by their columns, `file` being the place of a row's file;
-    what it read of each file; what it printed, its header and each row; and links that are known by
-    the checksum alone.
+    what it read of each file; and links that are known by the checksum alone.
     """
 
     rows: list[dict[str, Any]]
     ends: list[End]
-    printed: list[str]
     options: list[str]
 
-    @property
-    def text(self) -> str:
-        return "".join(self.printed)
+    def count(self, number: int) -> int:
+        """How many rows a file has."""
+        return sum(row["file"] == number for row in self.rows)
 
-    def without(self, name: str) -> str:
-        """What it printed, without the rows of the file of this name."""
-        return "".join(text for text in self.printed if not text.rstrip().endswith(f",{name}"))
 
-    def of_file(self, number: int) -> list[str]:
-        """The rows of a file, as they were printed, without the file's name."""
-        return [text for row, text in zip(self.rows, self.printed[1:]) if row["file"] == number]
+NOTHING = Answer([], [], [])
 
 
 class NoAnswer(Exception):
@@ -96,13 +90,13 @@ class Asker:
     def __init__(self, program: str, question: Iterable[str]) -> None:
         self.program, self.words = plant.chain_of(program), [*question, "--pieces"]
 
-    def ask(self, files: Files, digits: Digits) -> Answer:
+    def ask(self, files: Files, digits: Digits, is_middle: bool = False) -> Answer:
         """What it answers about files, from the oldest on; a NoAnswer or a Fault where it has no
         answer.
         """
         if not self.program:
             raise NoAnswer("there is no tracedesk-chain next to tracedesk: CHAIN names it")
-        return asked(self.program, self.words, files, digits)
+        return asked(self.program, self.words, files, digits, is_middle)
 
 
 def asked(
@@ -110,17 +104,18 @@ def asked(
     words: list[str],
     files: Files,
     digits: Digits,
+    is_middle: bool = False,
 ) -> Answer:
     """What the program answers to these words about files, from the oldest on, that have these
     digits; the last may have none. A NoAnswer if there is none, a Fault if a file changes
-    meanwhile.
+    meanwhile. With `is_middle` the first file may have been begun from another, which isn't named.
     """
     sizes = [os.stat(file).st_size for file in files]
     spans = parts.spans(sizes, parts.jobs(sizes))
 
     def of(span: parts.Span) -> Answer:
         first, end = span[0], span[1] + 1
-        middle = ["--from-middle"] * (first > 0)
+        middle = ["--from-middle"] * (is_middle or first > 0)
         its = files[first:end], digits[first:end]
         return in_turn(chain, words, middle, *its)
 
@@ -132,17 +127,12 @@ def joined(spans: Sequence[parts.Span], answers: Sequence[Answer]) -> Answer:
     """The answer over all files, by those over parts that share a file each."""
     whole = answers[0]
     for (first, _), its in zip(spans[1:], answers[1:]):
-        if whole.ends[-1] != its.ends[0] or len(whole.of_file(first)) != len(its.of_file(0)):
+        if whole.ends[-1] != its.ends[0] or whole.count(first) != its.count(0):
             raise plant.Fault(
                 "two parts of the chain differ about the file that they share: ask again"
             )
-        later = [it for it in zip(its.rows, its.printed[1:]) if it[0]["file"] > 0]
-        whole = Answer(
-            whole.rows + [{**row, "file": first + row["file"]} for row, _ in later],
-            whole.ends + its.ends[1:],
-            whole.printed + [text for _, text in later],
-            whole.options + its.options,
-        )
+        later = [{**row, "file": first + row["file"]} for row in its.rows if row["file"] > 0]
+        whole = Answer(whole.rows + later, whole.ends + its.ends[1:], whole.options + its.options)
     return whole
 
 
@@ -179,8 +169,7 @@ def in_turn(
     ends = [end for _, its in runs for end in its.ends]
     want_links(files, digits, ends)
     rows = [{**row, "file": first + row["file"]} for first, its in runs for row in its.rows]
-    printed = runs[0][1].printed[:1] + [text for _, its in runs for text in its.printed[1:]]
-    return Answer(rows, ends, printed, options)
+    return Answer(rows, ends, options)
 
 
 def want_links(files: Files, digits: Digits, ends: Sequence[End]) -> None:
@@ -194,71 +183,70 @@ def want_links(files: Files, digits: Digits, ends: Sequence[End]) -> None:
 
 def asked_of(chain: str, words: list[str], files: Files) -> Answer:
     """The same of files without such links."""
+    with copies_of(chain, files) as (run, copies):
+        return said_of(run, words, copies)
+
+
+def printed(chain: str, words: list[str], file: pathlib.Path, out: IO[bytes]) -> None:
+    """Has the program print what it answers about one file, from the beginning of `out` on."""
+    with copies_of(chain, [file]) as (run, copies):
+        run_to(out, run, words, copies)
+    out.seek(0)
+
+
+@contextlib.contextmanager
+def copies_of(chain: str, files: Files) -> Iterator[tuple[plant.Program, Files]]:
+    """The program, and copies of files that it may open; a Fault if a file changes meanwhile."""
     run = plant.Program(chain, files[0])
     before = [state_of(it) for it in files]
     with Room() as room:
         what = "copies of the files: TMPDIR names another folder"
         plant.want_room(room, sum(os.stat(it).st_size for it in files), what)
         run.give(room)
-        copies = [copied(run, it, pathlib.Path(room, str(n))) for n, it in enumerate(files, 1)]
-        answer = said_of(run, words, copies)
+        yield run, [copied(run, it, pathlib.Path(room, str(n))) for n, it in enumerate(files, 1)]
     if changed := [it for it, then in zip(files, before) if state_of(it) != then]:
         raise plant.Fault(f"{changed[0]}: it was changed while it was asked: ask again")
-    return answer
+
+
+def run_to(out: IO[Any], run: plant.Program, words: list[str], files: Files) -> list[End]:
+    """Runs the program, which prints into an open file; what it read of each of the copies."""
+    ends: list[End] = []
+    errors: list[str] = []
+    folders = re.compile("|".join(sorted({f"{re.escape(str(it.parent))}/" for it in files})))
+    done = subprocess.run(
+        [*plant.LOW, run.program, *words, *files],
+        stdin=subprocess.DEVNULL,
+        stdout=out,
+        stderr=subprocess.PIPE,
+        **plant.TEXT,
+        **run.how,
+    )
+    said: list[str] = done.stderr.split("\n")
+    for line in filter(None, said):
+        if found := FILE.fullmatch(line.strip()):
+            minute = int(found[2]) if found[2] != "none" else 0
+            ends.append(End(int(found[1]), minute, found[3] or ""))
+        else:
+            errors.append(folders.sub("", line.strip().partition(": ")[2]))
+    if status := done.returncode:
+        raise NoAnswer("; ".join(errors) or f"it ended with status {status}", status, ends)
+    return ends
 
 
 def said_of(run: plant.Program, words: list[str], files: Files) -> Answer:
-    """The answer, with the files' own names in its texts."""
-    folders = re.compile("|".join(sorted({f"{re.escape(str(it.parent))}/" for it in files})))
-    ends: list[End] = []
-    errors: list[str] = []
+    """The answer about copies of files."""
     with tempfile.TemporaryFile("w+", newline="", **plant.TEXT) as out:
-        done = subprocess.run(
-            [*plant.LOW, run.program, *words, *files],
-            stdin=subprocess.DEVNULL,
-            stdout=out,
-            stderr=subprocess.PIPE,
-            **plant.TEXT,
-            **run.how,
-        )
-        said: list[str] = done.stderr.split("\n")
-        for line in filter(None, said):
-            if found := FILE.fullmatch(line.strip()):
-                minute = int(found[2]) if found[2] != "none" else 0
-                ends.append(End(int(found[1]), minute, found[3] or ""))
-            else:
-                errors.append(folders.sub("", line.strip().partition(": ")[2]))
+        ends = run_to(out, run, words, files)
         out.seek(0)
-        printed = list(records(out))
-    if status := done.returncode:
-        raise NoAnswer("; ".join(errors) or f"it ended with status {status}", status, ends)
-    header, *rows = [fields for fields, _ in printed] or [[]]
+        header, *rows = [*csv.reader(out)] or [[]]
     if ",".join(header) != (CHECKED if words[0] == "check" else PIECES) or len(ends) != len(files):
         raise NoAnswer(
             f"it answers {words[0]} with {','.join(header)} about {len(ends)} of"
             f" {len(files)} files: it is another version"
         )
     place = {str(it): number for number, it in enumerate(files)}
-    return Answer(
-        [{**dict(zip(header, row)), "file": place[row[header.index("file")]]} for row in rows],
-        ends,
-        [folders.sub("", text) for _, text in printed],
-        [],
-    )
-
-
-def records(text: Iterable[str]) -> Iterator[tuple[list[str], str]]:
-    """The records of a CSV text, each with its text: a field may have an end of line."""
-    read: list[str] = []
-
-    def lines() -> Iterator[str]:
-        for line in text:
-            read.append(line)
-            yield line
-
-    for fields in csv.reader(lines()):
-        yield fields, "".join(read)
-        read.clear()
+    at = header.index("file")
+    return Answer([{**dict(zip(header, row)), "file": place[row[at]]} for row in rows], ends, [])
 
 
 def copied(run: plant.Program, file: pathlib.Path, folder: pathlib.Path) -> pathlib.Path:

@@ -1,20 +1,14 @@
-"""What a recall asks, and a first look at an archive by SQL: what tracedesk-chain doesn't print."""
+"""What a recall asks, and what tracedesk-chain doesn't print of a file, by SQL."""
 from __future__ import annotations
 
 import json
 import pathlib
 import sqlite3
-import sys
 from typing import NamedTuple
 
-from tracedesk_ops import catalogue, copies
+from tracedesk_ops import catalogue, copies, sealed
 
 KNOWN = "SELECT 1 FROM {} WHERE {}"
-# without an index by reel this is one scan of placement, in the order in which it lies: so nothing
-# is ordered here
-PIECES = """SELECT board, designator, part, lot, reel.reel, placement.machine, slot, overdue, effective
-    FROM placement CROSS JOIN reel USING (reel) CROSS JOIN accepted USING (number) WHERE {}"""
-THOSE_OF = "placement.reel IN (SELECT reel FROM reel WHERE {})"
 LEFT = """SELECT reel, part, lot, remaining, iif(mount.reel IS NOT NULL, 'mounted', iif(open_since >= 0, 'open', 'sealed')),
     coalesce(machine, ''), coalesce(slot, '') FROM reel LEFT JOIN mount USING (reel) WHERE {} AND remaining > 0 ORDER BY reel"""
 
@@ -99,50 +93,12 @@ class ReelLeft(NamedTuple):
     minute: int | None
 
 
-class Told(NamedTuple):
-    """What a file knows: whether the name, and its pieces."""
-
-    known: bool
-    pieces: list[Piece]
-
-
-def at(
-    line: Line, archive: catalogue.Archive, question: Question, wants_pieces: bool = True
-) -> Told:
-    """Whether an archive of a line knows the name, and its pieces."""
-    with catalogue.unchanged(line.folder, archive) as database:
-        return told_by(database, line, archive, question, wants_pieces)
-
-
-def told_by(
-    database: sqlite3.Connection,
-    line: Line,
-    archive: catalogue.Archive,
-    question: Question,
-    wants_pieces: bool,
-) -> Told:
+def is_known(line: Line, archive: catalogue.Archive, question: Question) -> bool:
+    """Whether a file of a line knows the name."""
     where, values = question.sql()
-    is_board = question.kind == "board"
-    known = bool(
-        copies.rows(database, KNOWN.format("board" if is_board else "reel", where), *values)
-    )
-    query = PIECES.format(where if is_board else THOSE_OF.format(where))
-    placed = database.execute(query, values) if known and wants_pieces else ()
-    return Told(
-        known,
-        [
-            Piece._make(
-                (
-                    *map(sys.intern, row[:7]),
-                    "yes" if row[7] else "no",
-                    row[8],
-                    line.name,
-                    archive.file,
-                )
-            )
-            for row in placed
-        ],
-    )
+    query = KNOWN.format("board" if question.kind == "board" else "reel", where)
+    with sealed.opened(catalogue.path_of(line.folder, archive)) as database:
+        return bool(copies.rows(database, query, *values))
 
 
 def left_in(

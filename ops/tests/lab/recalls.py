@@ -125,9 +125,9 @@ class Meanwhile(chains.Asker):
         super().__init__(program, words)
         self.meanwhile = meanwhile
 
-    def ask(self, *words: Any) -> Any:
+    def ask(self, *words: Any, **how: Any) -> Any:
         self.meanwhile()
-        return super().ask(*words)
+        return super().ask(*words, **how)
 
 
 class Asking:

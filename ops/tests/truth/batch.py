@@ -2,6 +2,7 @@
 import collections
 import contextlib
 import csv
+import dataclasses
 import json
 import pathlib
 import random
@@ -11,8 +12,7 @@ from unittest import mock
 
 from lab.tools import Ended, run_tool
 from tracedesk import desk as desks
-from tracedesk_ops import around, catalogue, chains, collecting, doubts, files, firstlook, sealed
-from tracedesk_ops import untraced
+from tracedesk_ops import around, catalogue, chains, collecting, doubts, files, sealed, untraced
 from tracedesk_ops.line import LineFolder
 from tracedesk_ops.firstlook import Line, Question
 from tracedesk_ops.recalls.recall import Recall
@@ -173,13 +173,14 @@ class Batch:
         """Asks for each lot of each run. The desk stands still by now, so what is the same for all
         of them is looked at once."""
         self.line = Line(LINE, self.place.folder)
-        self.chain = AskedOnce(str(self.place.program))
         looked = LookedOnce()
         with contextlib.ExitStack() as held:
             self.room = pathlib.Path(held.enter_context(files.Room()))
+            reels = "".join(f"{reel}\n" for run in self.runs for reel in run.reels)
+            (self.room / "reels").write_text(reels)
+            self.chain = AskedOnce(str(self.place.program), self.room / "reels")
             desk = around.survey(LineFolder(self.place.folder), LINE, room=self.room)
             for owner, name, its in (
-                (firstlook, "at", told_by_sql(firstlook.at)),
                 (around, "survey", lambda *_, **__: desk),
                 (doubts, "look", looked),
             ):
@@ -201,6 +202,7 @@ class Batch:
     def answer_of(self, lot: str) -> Any:
         """What tracedesk-recall says of a lot, in this process."""
         question = Question("lot", lot)
+        self.chain.lot = lot
         with files.Room() as room:
             told = Recall(question, [self.line], self.chain, pathlib.Path(room))
             told.ask()
@@ -271,11 +273,6 @@ class Batch:
             print("really", *happened)
 
 
-def told_by_sql(at: Callable[..., Any]) -> Callable[..., Any]:
-    """Of an archive the pieces of each lot are those of SQL."""
-    return lambda *words: at(*words[:3])
-
-
 class LookedOnce:
     """What is around the line's files: it is looked at once, and each run is told what is of its
     machine."""
@@ -296,12 +293,14 @@ class LookedOnce:
 
 
 class AskedOnce(chains.Asker):
-    """tracedesk-chain, whose answer is the same for all lots."""
+    """tracedesk-chain, which is asked once for all reels; each lot gets its own rows."""
 
-    def __init__(self, program: str) -> None:
-        super().__init__(program, ["lot", "no lot"])
+    def __init__(self, program: str, listed: pathlib.Path) -> None:
+        super().__init__(program, ["reels", str(listed)])
         self.told: Any = None
+        self.lot = ""
 
-    def ask(self, *words: Any) -> Any:
-        self.told = self.told or super().ask(*words)
-        return self.told
+    def ask(self, *words: Any, **how: Any) -> Any:
+        self.told = self.told or super().ask(*words, **how)
+        rows = [{**row} for row in self.told.rows if row["lot"] == self.lot]
+        return dataclasses.replace(self.told, rows=rows)

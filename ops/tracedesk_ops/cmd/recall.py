@@ -18,44 +18,34 @@ examples:
   tracedesk-recall board SN-117 --line L1 /mirror/L1        a mirror, without what came since
   tracedesk-recall reel K-01 --show reels
 
-A line is its folder. tracedesk-chain reads its sealed files, once the checksum of each is that of
-its name, and a copy of its desk as it is now. It answers only if they are a chain: each file names
-the one from which it was begun. So a missing file is reported. Standard error says what could not
-be asked, and why: then the answer may lack boards. tracedesk-chain is the one next to tracedesk, or
-that of CHAIN in the environment. Meanwhile copies of all of them lie in TMPDIR.
+tracedesk-chain reads the sealed files of a line, and a copy of its desk as it is now; copies of all
+of them lie in TMPDIR meanwhile. If they are no chain, as when a file is missing, it reads each by
+itself. Standard error says what could not be asked, and why: then the answer may lack boards.
+tracedesk-chain is the one next to tracedesk, or that of CHAIN in the environment.
 
 A lot is only its name: --part PART leaves out other parts that came in a lot of that name. A reel
 that changed lines is followed under its other names. ATTRIBUTE is reel, part, lot, date_code,
 supplier, maker_part or order, as tracedesk-reels keeps them. If it is named twice, a reel has one
-of the values. A reel whose attributes nobody gave may be one of them: it is named, and the status
-is 3.
+of the values. A reel whose attributes nobody gave may be one of them: then the status is 3.
 
 --line          a line's name, and its folder. Of a line on another computer name a mirror of it:
                 its newest sealed file stands for the desk, and the answer is not complete
 --within PIECES  a label may be wrong by so many pieces: those so near a splice that they may be of
                 the neighbour are doubtful, from the second splice of a tape on the more
 --show TABLE    the table to print as CSV; without it pieces of a board, and boards of a lot or reel
-  boards        of each board its pieces, the first and last minute, the lines, overdue, and the
-                files they lie in
-  pieces        each piece: line, file, designator, part, lot, reel, machine, slot, overdue, and
-                when it was placed
-  reels         of the lot or reel the pieces left, in stock or mounted, and the minute
+  boards        of each board its pieces, the first and last minute, the lines, overdue, the files
+  pieces        each piece: where it is, its reel, machine and slot, and when it was placed
+  reels         of the lot or reel the pieces left, in stock or mounted
   asked         the files: which were asked, and why the others were not
-  untraced      work that the desks refused, on any reel: its pieces are in no trace; with the
-                decisions about it
-  doubtful      pieces of the lot, reel or board that may be of another reel: a load, splice or
-                unload came late or was refused
+  untraced      work that the desks refused, on any reel, with the decisions about it
+  doubtful      pieces of the lot, reel or board that may be of another reel, and why
 --shipped FILE  a CSV file with the columns board,customer,date, which the boards have then
 --customer NAME  with --shipped and --evidence: the evidence has the serials of this customer alone,
-                 even those that hold no piece, and nothing of other boards; a serial that no line
-                 knows makes it incomplete
---evidence FOLDER  all of it as CSV, the program's answers, a certificate, checksums and a
-                   signature: tracedesk-verify verifies it
+                also those that hold no piece; one that no line knows makes it incomplete
+--evidence FOLDER  a new folder with all of it as CSV, a certificate, checksums and a signature:
+                tracedesk-verify verifies it. It gets its name once it is whole
 --key FILE      the private key that signs the evidence, as ssh-keygen makes it, or the socket of
-                tracedesk-recall-sign; without it the `key` of the line's set-up file. If that has
-                none, the evidence is not signed
-
-FOLDER of --evidence must not be there yet. It gets its name once it is whole.
+                tracedesk-recall-sign; without it the `key` of the line's set-up file, if it has one
 
 Exit status: 0 all were asked; 1 all were asked, and none knows the name; 2 bad command line, or a
 list that can't be read; 3 not all were asked, the archives are no chain, pieces are counted twice,
@@ -71,8 +61,8 @@ import pathlib
 from tracedesk_ops import catalogue, chains, files, places, plant
 from tracedesk_ops.firstlook import Line, Question
 from tracedesk_ops.recalls import customers, sets, signing, words
-from tracedesk_ops.recalls.certificate import programs
-from tracedesk_ops.recalls.evidence import LISTED, evidence, listing, write_evidence
+from tracedesk_ops.recalls.certificate import certificate, programs
+from tracedesk_ops.recalls.evidence import LISTED, contents, listing, read_once, write_evidence
 from tracedesk_ops.recalls.recall import Recall
 from tracedesk_ops.recalls.tables import Shipped, Table, tables_of
 
@@ -137,7 +127,7 @@ def answer(asks: argparse.Namespace, room: pathlib.Path) -> int:
     tell(recall)
     try:
         write(asks, recall, tables, own, key)
-    except (plant.Fault, signing.NoSignature) as fault:
+    except (plant.Fault, signing.NoSignature, OSError) as fault:
         words.stop(f"the answer can't be written: {fault}", 4)
     if recall.faults or recall.breaks:
         plant.tell("NOT COMPLETE: boards may be missing, and the lines above say why")
@@ -186,13 +176,12 @@ def write(
 ) -> None:
     """Writes the evidence, and prints the table."""
     if asks.evidence:
-        used = programs(asks.program)
-        signed_by = signing.fingerprint(key) if key else ""
-        its = (
-            customers.contents(recall, own, used, signed_by)
-            if own
-            else evidence(recall, tables, asks.shipped, used, signed_by)
-        )
+        told = certificate(recall, own or tables, programs(asks.program))
+        if own:
+            customers.hide(told, own["serials"])
+        its = contents(told, own or tables, recall.question)
+        if asks.shipped and not own:
+            its["shipped.csv"] = read_once(asks.shipped)
         write_evidence(asks.evidence, its, key)
         if not key:
             plant.tell("the evidence is not signed: a reader can't know who made it (--key)")

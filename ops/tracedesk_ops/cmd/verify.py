@@ -8,9 +8,10 @@ examples:
 
 FOLDER is what tracedesk-recall --evidence wrote. SHA256SUMS must have a signature by a key of FILE:
 nothing else is read before. Each file that it names must be there with its checksum, and no other.
-Its tables must be those that its certificate names. With the archives at hand tracedesk-chain is
-asked again, and must give the same answer. A running desk has gone on since: its part is not asked
-again. Standard error names the question, its time and lines, and whether the answer is complete.
+Its tables must have the rows that its certificate names, and its boards be those of its pieces.
+With the archives at hand tracedesk-chain is asked again, and must name the same pieces. A running
+desk has gone on since: its part is not asked again.
+Standard error names the question, its time and lines, and whether the answer is complete.
 
 --signers FILE     whose signatures count: lines as `plant namespaces="tracedesk-recall" ssh-ed25519
                    AAAA..`, which the plant gives you by another way than with the evidence
@@ -57,8 +58,8 @@ def parse() -> argparse.Namespace:
 
 def verify(words: argparse.Namespace) -> int:
     who, contents = verifying.signed(words.folder, words.signers)
-    told = verifying.told_in(contents, who)
-    plant.tell(f"signed by {who.name}")
+    told = verifying.told_in(contents)
+    plant.tell(f"signed by {who}")
     with files.Room() as room:
         its = (contents, told, words.archives, words.program, pathlib.Path(room))
         for text in verifying.again(*its) if words.archives else ():

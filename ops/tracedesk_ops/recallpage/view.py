@@ -9,42 +9,28 @@ from typing import Any
 
 from tracedesk_ops import catalogue
 from tracedesk_ops.recalls.certificate import FILE_NAME
+from tracedesk_ops.recalls.signing import SIGNATURE
 from tracedesk_ops.recalls.wording import readable
 
-TITLES = {
-    "board": "Board",
-    "pieces": "Pieces",
+TITLES = {  # of the columns whose names say too little
     "first_minute": "First placed",
     "last_minute": "Last placed",
-    "line": "Line",
     "overdue": "Floor life used up",
     "file": "Kept in",
-    "customer": "Customer",
     "date": "Shipped",
     "designator": "Place",
-    "part": "Part",
-    "lot": "Lot",
-    "reel": "Reel",
-    "machine": "Machine",
-    "slot": "Slot",
     "minute": "Placed",
     "remaining": "Pieces left",
-    "state": "State",
-    "as_of": "As of",
     "sha256": "Checksum",
-    "asked": "Asked",
     "known": "Knows the name",
     "why": "Why not",
     "at": "Reported",
-    "work": "Work",
     "refusal": "Refused because",
     "place": "At",
     "source": "Reported by",
     "id": "Number of the report",
     "reels": "Reels on the machine",
     "became": "What became of it",
-    "decided_by": "Decided by",
-    "reason": "Reason",
     "other_reels": "May be of reel",
     "other_lots": "May be of lot",
 }
@@ -187,7 +173,7 @@ def answer_of(evidence: pathlib.Path) -> ShownAnswer:
     lines = ", ".join(line["line"] for line in told["lines"])
     facts = [("Asked", spelled(told["asked_at"])), ("Lines", lines)]
     facts.append(("Programs", ", ".join(its["version"] for its in told["programs"][:2])))
-    facts.append(("Signed by", told["signed_by"]))
+    facts.append(("Signed", "yes" if (evidence / SIGNATURE).exists() else "no"))
     return ShownAnswer(
         title=title,
         is_complete=told["answer"]["is_complete"],

@@ -1,6 +1,5 @@
 """The certificate of a recall: the question, the files that were asked, the programs, the answer,
-and what it can't know. It is `certificate.json` in the evidence; `question.txt` says the same to a
-reader.
+and what it can't know. It is `certificate.json` in the evidence, which a person can read too.
 """
 from __future__ import annotations
 
@@ -10,15 +9,15 @@ import pathlib
 import shutil
 import sqlite3
 import subprocess
-from collections.abc import Iterable, Iterator
+from collections.abc import Iterable
 from typing import Any, NamedTuple
 
-from tracedesk_ops import __version__, catalogue, files, plant
+from tracedesk_ops import __version__, files, plant
 from tracedesk_ops.firstlook import Line
 from tracedesk_ops.recalls.recall import Recall
 from tracedesk_ops.recalls.tables import Table
 
-FILE_NAME, KIND = "certificate.json", "recall 2"
+FILE_NAME, KIND = "certificate.json", "recall 3"
 LISTED = "asked-reels.txt"  # the list of `tracedesk-chain reels`
 LIMITS = (
     "a piece whose placement nobody reported",
@@ -66,7 +65,7 @@ def programs(program: str) -> list[ProgramFile]:
 
 
 def certificate(
-    recall: Recall, tables: dict[str, Table], used: Iterable[ProgramFile], signed_by: str
+    recall: Recall, tables: dict[str, Table], used: Iterable[ProgramFile]
 ) -> dict[str, Any]:
     """The certificate of a recall, as JSON has it."""
     status = recall.status()
@@ -80,45 +79,29 @@ def certificate(
             **{name: len(table) - 1 for name, table in tables.items()},
             "undecided": len(recall.undecided()),
         },
-        "lines": [line_of(recall, number, line) for number, line in enumerate(recall.lines, 1)],
+        "lines": [line_of(recall, line) for line in recall.lines],
         "programs": [program._asdict() for program in used],
         "not_asked": recall.faults,
         "no_chain": recall.breaks,
         "twice": recall.doubts,
         "notes": recall.notes,
         "cannot_know": LIMITS,
-        "signed_by": signed_by or "nobody",
     }
 
 
-def line_of(recall: Recall, number: int, line: Line) -> dict[str, Any]:
-    """What was asked of a line. `chain` is the answer of tracedesk-chain, with the checksum of what
-    it says of sealed files; without it its files were looked at by SQL alone.
+def line_of(recall: Recall, line: Line) -> dict[str, Any]:
+    """What was asked of a line: the words of tracedesk-chain, whether its files are a chain, and
+    which these are. `why` is empty if one was asked.
     """
-    told: dict[str, Any] = {
+    words = recall.chain.words if recall.chain else []
+    files = [its for its in recall.asked if its.line == line.name and its.sha256]
+    return {
         "line": line.name,
         "folder": str(line.folder),
-        "chain": None,
+        "words": [LISTED if word.endswith(f"/{LISTED}") else word for word in words],
+        "is_chain": line.name in recall.chains,
+        "archives": [{"file": its.file, "sha256": its.sha256, "why": its.why} for its in files],
     }
-    marks: dict[str, str] = {}
-    if proof := recall.proofs.get(line.name):
-        sha256 = hashlib.sha256(bytes_of(proof.without(catalogue.RUNNING))).hexdigest()
-        said = recall.chain.words if recall.chain else []
-        words = [LISTED if word.endswith(f"/{LISTED}") else word for word in said]
-        told["chain"] = {"words": words, "file": f"chain-{number}.csv", "sha256": sha256}
-        files = [asked.file for asked in recall.asked if asked.line == line.name and asked.sha256]
-        marks = {file: end.mark for file, end in zip(files, proof.ends)}
-    told["archives"] = [
-        {
-            "file": asked.file,
-            "sha256": asked.sha256,
-            "mark": marks.get(asked.file),
-            "why": asked.why,
-        }
-        for asked in recall.asked
-        if asked.line == line.name and asked.sha256
-    ]
-    return told
 
 
 def bytes_of(text: str) -> bytes:
@@ -128,27 +111,3 @@ def bytes_of(text: str) -> bytes:
 
 def as_json(told: dict[str, Any]) -> bytes:
     return (json.dumps(told, indent=1) + "\n").encode("ascii")
-
-
-def as_text(told: dict[str, Any]) -> str:
-    """The certificate for a reader: a line for each thing that it says."""
-    return "".join(f"{line}\n" for line in spelled("", told))
-
-
-def spelled(name: str, value: Any) -> Iterator[str]:
-    words = name.replace("_", " ")
-    if isinstance(value, dict) and all(not isinstance(its, (dict, list)) for its in value.values()):
-        pairs = (
-            f"{key.replace('_', ' ')} {its}" for key, its in value.items() if its not in ("", None)
-        )
-        yield f"{words}: {', '.join(pairs)}"
-    elif isinstance(value, dict):
-        for key, its in value.items():
-            yield from spelled(f"{name} {key}".strip(), its)
-    elif isinstance(value, (list, tuple)) and any(isinstance(its, dict) for its in value):
-        for number, its in enumerate(value, 1):
-            yield from spelled(f"{name} {number}", its)
-    elif isinstance(value, (list, tuple)):
-        yield from (f"{words}: {its}" for its in value)
-    else:
-        yield f"{words}: {value}"

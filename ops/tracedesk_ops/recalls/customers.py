@@ -4,10 +4,10 @@ from __future__ import annotations
 import contextlib
 import sqlite3
 from collections.abc import Iterable
+from typing import Any
 
 from tracedesk_ops import catalogue, copies, sealed
-from tracedesk_ops.recalls import certificate, evidence, tables, wording
-from tracedesk_ops.recalls.certificate import ProgramFile, bytes_of
+from tracedesk_ops.recalls import tables, wording
 from tracedesk_ops.recalls.recall import Recall
 from tracedesk_ops.recalls.tables import Shipped, Table
 
@@ -81,25 +81,16 @@ def sentence(serials: Table) -> str:
     return f"{', '.join(texts)}."
 
 
-def contents(
-    recall: Recall, its: dict[str, Table], used: Iterable[ProgramFile], signed_by: str
-) -> evidence.Contents:
-    """The files of a customer's evidence. What others have in the files of the lines is in none of
-    them: the certificate has the checksums of those alone.
+def hide(told: dict[str, Any], serials: Table) -> None:
+    """Takes out of a certificate what others have in the files of the lines: it has the checksums
+    of those alone.
     """
-    told = certificate.certificate(recall, its, used, signed_by)
-    told["customer"] = sentence(its["serials"])
+    told["customer"] = sentence(serials)
     for name in ("not_asked", "no_chain", "notes"):
         told[name] = [wording.readable(text) for text in told[name]]
-    told["twice"] = ["pieces are there twice in these lines' files"] if recall.doubts else []
+    if told["twice"]:
+        told["twice"] = ["pieces are there twice in these lines' files"]
     for line in told["lines"]:
         line["folder"] = None
         for archive in line["archives"]:
             archive["why"] = wording.readable(archive["why"])
-    listed = evidence.listing(recall.question)
-    return {
-        **({certificate.LISTED: listed} if listed else {}),
-        **{f"{name}.csv": bytes_of(catalogue.csv_text(table)) for name, table in its.items()},
-        certificate.FILE_NAME: certificate.as_json(told),
-        "question.txt": bytes_of(certificate.as_text(told)),
-    }

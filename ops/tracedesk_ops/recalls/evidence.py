@@ -1,20 +1,18 @@
 """The evidence that a recall writes: a folder, whole or not at all."""
 from __future__ import annotations
 
-import contextlib
 import functools
 import hashlib
 import os
 import pathlib
 import shutil
 import tempfile
-from collections.abc import Iterable, Iterator
+from typing import Any
 
-from tracedesk_ops import catalogue, files, plant
+from tracedesk_ops import catalogue, files
 from tracedesk_ops.recalls import certificate, signing
-from tracedesk_ops.recalls.certificate import ProgramFile, bytes_of
+from tracedesk_ops.recalls.certificate import bytes_of
 from tracedesk_ops.firstlook import Question
-from tracedesk_ops.recalls.recall import Recall
 from tracedesk_ops.recalls.signing import SUMS
 from tracedesk_ops.recalls.tables import Table
 
@@ -31,18 +29,6 @@ def write(path: pathlib.Path, content: bytes) -> None:
         os.fsync(file.fileno())
 
 
-@contextlib.contextmanager
-def named(path: pathlib.Path) -> Iterator[None]:
-    """Gives a whole answer its name on the disk; a Fault where that fails."""
-    try:
-        yield
-        files.keep(path.parent)
-    except OSError as fault:
-        raise plant.Fault(f"{path}: {fault.strerror}") from fault
-    except signing.NoSignature as fault:
-        raise plant.Fault(f"{path}: {fault}") from fault
-
-
 def sums_of(contents: Contents) -> bytes:
     """The checksums of the files, as `sha256sum` writes them."""
     rows = (f"{hashlib.sha256(text).hexdigest()}  {name}\n" for name, text in contents.items())
@@ -53,18 +39,18 @@ def write_evidence(folder: pathlib.Path, contents: Contents, key: pathlib.Path |
     """A new folder with these files, their checksums, and a signature by a key, if there is one;
     whole or not at all. A folder with something in it stays.
     """
-    with named(folder):
-        room = pathlib.Path(tempfile.mkdtemp(prefix=f".{folder.name}-", dir=folder.parent))
-        try:
-            for name, content in {**contents, SUMS: sums_of(contents)}.items():
-                write(room / name, content)
-            if key:
-                signing.sign(room, key)
-                files.keep(room / signing.SIGNATURE)
-            files.keep(room)
-            os.rename(room, folder)
-        finally:
-            shutil.rmtree(room, ignore_errors=True)
+    room = pathlib.Path(tempfile.mkdtemp(prefix=f".{folder.name}-", dir=folder.parent))
+    try:
+        for name, content in {**contents, SUMS: sums_of(contents)}.items():
+            write(room / name, content)
+        if key:
+            signing.sign(room, key)
+            files.keep(room / signing.SIGNATURE)
+        files.keep(room)
+        os.rename(room, folder)
+    finally:
+        shutil.rmtree(room, ignore_errors=True)
+    files.keep(folder.parent)
 
 
 def listing(question: Question) -> bytes:
@@ -72,27 +58,10 @@ def listing(question: Question) -> bytes:
     return bytes_of("".join(f"{reel}\n" for reel in question.reels))
 
 
-def evidence(
-    recall: Recall,
-    tables: dict[str, Table],
-    shipped: pathlib.Path | None,
-    used: Iterable[ProgramFile],
-    signed_by: str,
-) -> Contents:
+def contents(told: dict[str, Any], tables: dict[str, Table], question: Question) -> Contents:
     """The files of the evidence: their names and contents."""
-    told = certificate.certificate(recall, tables, used, signed_by)
-    contents = {
-        f"{name}.csv": bytes_of(catalogue.csv_text(table)) for name, table in tables.items()
-    }
-    contents |= {
-        certificate.FILE_NAME: certificate.as_json(told),
-        "question.txt": bytes_of(certificate.as_text(told)),
-    }
-    if recall.question.reels:
-        contents[LISTED] = listing(recall.question)
-    for number, line in enumerate(recall.lines, 1):
-        if line.name in recall.proofs:
-            contents[f"chain-{number}.csv"] = bytes_of(recall.proofs[line.name].text)
-    if shipped:
-        contents["shipped.csv"] = read_once(shipped)
-    return contents
+    found = {f"{name}.csv": bytes_of(catalogue.csv_text(table)) for name, table in tables.items()}
+    found[certificate.FILE_NAME] = certificate.as_json(told)
+    if question.reels:
+        found[LISTED] = listing(question)
+    return found

@@ -6,11 +6,11 @@ import datetime
 import os
 import pathlib
 import sqlite3
-from typing import NamedTuple
+from typing import Any, NamedTuple
 
 from tracedesk_ops import around, catalogue, chains, doubts, firstlook, model, plant, sealed
 from tracedesk_ops import untraced
-from tracedesk_ops.firstlook import Line, Piece, Question, ReelLeft, Told
+from tracedesk_ops.firstlook import Line, Piece, Question, ReelLeft
 from tracedesk_ops.line import LineFolder
 
 
@@ -35,7 +35,18 @@ def line_of(line: Line) -> LineFolder:
     return LineFolder(line.folder)
 
 
-Wait = tuple[catalogue.Archive, "concurrent.futures.Future[Told]"]
+Pieces = list[dict[str, Any]]  # as tracedesk-chain names them
+NO_ANSWER = (chains.NoAnswer, plant.Fault, OSError)
+
+
+class Answered(NamedTuple):
+    """What tracedesk-chain answered about the files of a line: of each its pieces, or why not; why
+    they are no chain; and links that are known by the checksum alone.
+    """
+
+    files: dict[catalogue.Archive, Pieces | Exception]
+    fault: Exception | None
+    options: list[str]
 
 
 class Recall:
@@ -59,47 +70,27 @@ class Recall:
         self.notes: list[str] = []
         self.files: dict[str, list[catalogue.Archive]] = {}  # by line, from the oldest on
         self.stamps: dict[str, tuple[set[str], set[str]]] = {}  # of the files, as they were before
-        self.proofs: dict[str, chains.Answer] = {}  # by line
+        self.chains: set[str] = set()  # lines whose files are one
         self.untraced: list[list[str]] = []
         self.doubtful: list[list[str]] = []
 
     def ask(self) -> None:
-        with concurrent.futures.ThreadPoolExecutor(os.cpu_count()) as threads:
-            waits = {line: self.begin(line, threads) for line in self.lines}
-            proofs = {
-                line: threads.submit(
-                    self.chain.ask,
-                    [catalogue.path_of(line.folder, it) for it, _ in its],
-                    [it.sha256[: model.DIGITS] for it, _ in its],
-                )
-                for line, its in waits.items()
-                if its
-                and self.question.names()
-                and not any(future.exception() for _, future in its)
-            }
         for line in self.lines:
-            self.answered(line, waits[line], proofs.get(line))
+            self.survey(line)
+        with concurrent.futures.ThreadPoolExecutor(os.cpu_count()) as threads:
+            answers = list(threads.map(self.answered, self.lines))
+        for line, answer in zip(self.lines, answers):
+            self.take(line, answer)
             if around.stamp(line_of(line)) != self.stamps[line.name]:
                 self.faults.append(
                     f"{line.folder}: its files were changed meanwhile, as by a roll-over or a"
                     " restore: ask again"
                 )
-        for line in self.lines:
             self.look_for_untraced(line)
         self.pieces.sort(key=lambda it: (it.board, it.line, it.designator))
         self.reels.sort(key=lambda it: (it[:-1], -1 if it.minute is None else it.minute))
         self.doubt()
         self.note()
-
-    def begin(self, line: Line, threads: concurrent.futures.ThreadPoolExecutor) -> list[Wait]:
-        """Asks the files of a line: pairs of the file and what will be told, in the order of their
-        chain.
-        """
-        self.survey(line)
-        return [
-            (file, threads.submit(firstlook.at, line, file, self.question, False))
-            for file in self.files[line.name]
-        ]
 
     def survey(self, line: Line) -> None:
         """Looks at a line's folder: what nobody asks, or can ask, is a fault. The files that are
@@ -129,31 +120,57 @@ class Recall:
         if not survey.archives:
             self.notes.append(f"{line.name}: no archives yet in {line.folder}")
 
-    def answered(
-        self, line: Line, waits: list[Wait], proof: concurrent.futures.Future[chains.Answer] | None
-    ) -> None:
-        """Takes what the files of a line told, from the oldest on."""
-        told: dict[catalogue.Archive, Told] = {}
-        ends: list[chains.End] = []
-        for file, future in waits:
+    def answered(self, line: Line) -> Answered:
+        """What tracedesk-chain answers about the files of a line, from the oldest on. If they are
+        no chain, it is asked about each by itself.
+        """
+        files = self.files[line.name]
+        paths = [catalogue.path_of(line.folder, it) for it in files]
+        digits = [it.sha256[: model.DIGITS] for it in files]
+        its: dict[catalogue.Archive, Pieces] = {it: [] for it in files}
+        try:
+            answer = self.chain.ask(paths, digits) if files else chains.NOTHING
+            for row in answer.rows:
+                its[files[row.pop("file")]].append(row)
+            return Answered({**its}, None, answer.options)
+        except NO_ANSWER as fault:
+            of_each = map(self.alone, paths, digits)
+            return Answered(dict(zip(files, of_each)), fault, [])
+
+    def alone(self, path: pathlib.Path, digits: str) -> Pieces | Exception:
+        """What tracedesk-chain answers about one file, or why it doesn't."""
+        try:
+            return self.chain.ask([path], [digits], is_middle=True).rows
+        except NO_ANSWER as fault:
+            return fault
+
+    def take(self, line: Line, answer: Answered) -> None:
+        """Takes what was answered about a line's files."""
+        if answer.fault:
+            self.refused(line, answer.fault)
+        else:
+            self.chains.add(line.name)
+        self.notes += [
+            f"{line.name}: {it}: as by a roll-over with an option. Its checksum alone shows that it"
+            " went on from the one before it"
+            for it in answer.options
+        ]
+        for file, rows in answer.files.items():
+            if isinstance(rows, Exception):
+                self.keep_asked(line, file, "no", why=str(rows))
+                continue
+            for row in rows:
+                row |= {"minute": int(row["minute"]), "line": line.name, "file": file.file}
+                self.pieces.append(Piece(**row))
             try:
-                told[file] = future.result()
-            except catalogue.CatalogueError as fault:
-                self.faults.append(f"{line.name}: {fault}")
-                self.keep_asked(line, file, "no", why=str(fault))
-        if proof:
-            try:
-                ends = self.proved(line, told, proof.result())
-            except (chains.NoAnswer, plant.Fault, OSError) as fault:
-                self.refused(line, list(told), fault)
-        if not ends:  # the others are asked all the same, where one is missing
-            told = {it: firstlook.at(line, it, self.question) for it in told}
-        for file, its in told.items():
-            self.pieces += its.pieces
-            self.known |= its.known
-            self.keep_asked(line, file, "yes", "yes" if its.known else "no", len(its.pieces))
-        if told:
-            self.left_over(line, list(told)[-1])
+                known = bool(rows) or firstlook.is_known(line, file, self.question)
+            except sqlite3.Error as fault:
+                self.faults.append(f"{line.name}: {file.file}: {fault}")
+                known = False
+            self.known |= known
+            self.keep_asked(line, file, "yes", "yes" if known else "no", len(rows))
+        if answer.files:
+            self.left_over(line, list(answer.files)[-1])
 
     def left_over(self, line: Line, newest: catalogue.Archive) -> None:
         """Takes what is left of the lot or reel by the newest file."""
@@ -178,28 +195,8 @@ class Recall:
         came = (asked, known, pieces, why)
         self.asked.append(Asked(line.name, it.file, it.sha256, first, last, *came))
 
-    def proved(
-        self, line: Line, told: dict[catalogue.Archive, Told], answer: chains.Answer
-    ) -> list[chains.End]:
-        """Takes the pieces of a line's chain. Returns what was read of each file."""
-        archives = list(told)
-        self.notes += [
-            f"{line.name}: {it}: as by a roll-over with an option. Its checksum alone shows that it"
-            " went on from the one before it"
-            for it in answer.options
-        ]
-        for row in answer.rows:
-            archive = archives[row.pop("file")]
-            minute = int(row.pop("minute"))
-            piece = Piece(**row, minute=minute, line=line.name, file=archive.file)
-            told[archive].pieces.append(piece)
-        self.proofs[line.name] = answer
-        return answer.ends
-
-    def refused(self, line: Line, archives: list[catalogue.Archive], fault: Exception) -> None:
-        """Takes why there is no answer about a line's chain: what is printed of its archives is a
-        first look.
-        """
+    def refused(self, line: Line, fault: Exception) -> None:
+        """Takes why there is no answer about a line's chain."""
         status = getattr(fault, "status", None)
         if status == chains.NO_CHAIN:
             self.breaks.append(
@@ -212,10 +209,7 @@ class Recall:
                 " mirror"
             )
         else:
-            self.faults.append(
-                f"{line.name}: its {len(archives)} files were looked at by SQL alone, since"
-                f" tracedesk-chain gives no answer: {fault}"
-            )
+            self.faults.append(f"{line.name}: tracedesk-chain gives no answer: {fault}")
 
     def look_for_untraced(self, line: Line) -> None:
         """What is around a line's files: work that a desk refused, what was decided about it, and
@@ -258,9 +252,9 @@ class Recall:
                     " it is one file, on two lines"
                 )
         lines: dict[tuple[str, str, str], set[str]] = {}
-        for it in self.pieces:
-            if it.file == RUNNING:
-                lines.setdefault((it.board, it.designator, it.reel), set()).add(it.line)
+        for piece in self.pieces:
+            if piece.file == RUNNING:
+                lines.setdefault((piece.board, piece.designator, piece.reel), set()).add(piece.line)
         if both := next((sorted(those) for those in lines.values() if len(those) > 1), None):
             self.doubts.append(
                 f"the running desks of {' and '.join(both)} have the same pieces: one of them is a"

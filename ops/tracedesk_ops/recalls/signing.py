@@ -11,7 +11,6 @@ import socket
 import subprocess
 import tempfile
 from collections.abc import Iterator
-from typing import NamedTuple
 
 SUMS, SIGNATURE = "SHA256SUMS", "SHA256SUMS.sig"
 NAMESPACE = "tracedesk-recall"
@@ -57,20 +56,6 @@ def by_socket(sums: bytes, socket_at: pathlib.Path) -> bytes:
     return signature
 
 
-def fingerprint(key: pathlib.Path) -> str:
-    """The fingerprint of a private key, or of that of a service."""
-    if key.is_socket():
-        with at_hand(by_socket(b"", key)) as path:
-            check = ("-Y", "check-novalidate", "-n", NAMESPACE, "-s", path)
-            return keygen(*check).split()[-1]
-    try:
-        return keygen("-l", "-E", "sha256", "-f", key).split()[1]
-    except NoSignature as fault:
-        raise NoSignature(
-            f"{key} can't be used as a key: {fault}. Call it as a user who may read the key"
-        ) from fault
-
-
 def sign(folder: pathlib.Path, key: pathlib.Path) -> None:
     """Writes the signature next to the checksums of a folder."""
     if key.is_socket():
@@ -91,14 +76,7 @@ def at_hand(signature: bytes) -> Iterator[str]:
         yield copy.name
 
 
-class Signer(NamedTuple):
-    """Who signed: the name in the file of allowed signers, and the fingerprint of the key."""
-
-    name: str
-    key: str
-
-
-def signer(sums: bytes, signature: bytes, signers: pathlib.Path) -> Signer:
+def signer(sums: bytes, signature: bytes, signers: pathlib.Path) -> str:
     """Who of a file of allowed signers signed these checksums; a NoSignature if nobody did."""
     with at_hand(signature) as path:
         words = ("-s", path, "-f", signers)
@@ -109,5 +87,5 @@ def signer(sums: bytes, signature: bytes, signers: pathlib.Path) -> Signer:
                 f"its key is that of nobody in {signers}: ask the plant for its key by another way"
                 " than with the evidence"
             ) from fault
-        said = keygen("-Y", "verify", *words, "-I", name, "-n", NAMESPACE, given=sums)
-    return Signer(name, said.split()[-1])
+        keygen("-Y", "verify", *words, "-I", name, "-n", NAMESPACE, given=sums)
+    return name

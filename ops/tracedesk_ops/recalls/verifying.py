@@ -14,7 +14,7 @@ from typing import Any
 
 from tracedesk_ops import catalogue, chains, files, model, plant
 from tracedesk_ops.recalls import certificate, signing
-from tracedesk_ops.recalls.certificate import LISTED, bytes_of
+from tracedesk_ops.recalls.certificate import LISTED
 from tracedesk_ops.recalls.evidence import Contents
 from tracedesk_ops.recalls.signing import SIGNATURE, SUMS
 
@@ -22,7 +22,6 @@ RUNNING = catalogue.RUNNING
 
 MOST_SIGNED = 1 << 20  # bytes of the checksums, and of the signature
 MOST = 1 << 30  # bytes of another file
-TABLES = ("boards", "pieces", "reels", "asked", "untraced", "doubtful", "serials")
 TRACE = ("board", "designator", "part", "lot", "reel", "machine", "slot", "overdue")
 
 
@@ -43,7 +42,7 @@ def read(folder: pathlib.Path, name: str, most: int) -> bytes:
     return text
 
 
-def signed(folder: pathlib.Path, signers: pathlib.Path) -> tuple[signing.Signer, Contents]:
+def signed(folder: pathlib.Path, signers: pathlib.Path) -> tuple[str, Contents]:
     """Who signed the evidence, and the files that the signature names, which are all of it."""
     sums, signature = (read(folder, name, MOST_SIGNED) for name in (SUMS, SIGNATURE))
     try:
@@ -61,19 +60,19 @@ def signed(folder: pathlib.Path, signers: pathlib.Path) -> tuple[signing.Signer,
     return who, contents
 
 
-def told_in(contents: Contents, who: signing.Signer) -> dict[str, Any]:
-    """What the certificate says, if it is of this signer and names the tables that are there."""
+def told_in(contents: Contents) -> dict[str, Any]:
+    """What the certificate says, if the tables have the rows that it names, and its boards are
+    those of its pieces.
+    """
     try:
         told = dict(json.loads(contents[certificate.FILE_NAME]))
         if told["certificate"] != certificate.KIND:
             raise Refused(f"{certificate.FILE_NAME} is of another version of tracedesk-recall")
-        if told["signed_by"] != who.key:
-            raise Refused(f"its certificate says that it is signed by {told['signed_by']}")
-        for name in TABLES:
-            if f"{name}.csv" in contents and len(rows_of(contents, name)) != told["answer"][name]:
+        for name, rows in told["answer"].items():
+            if f"{name}.csv" in contents and len(rows_of(contents, name)) != rows:
                 raise Refused(f"{name}.csv has not the rows that {certificate.FILE_NAME} names")
-        want_pieces(contents, told)
-    except (KeyError, ValueError, TypeError, RecursionError) as fault:
+        want_boards(contents)
+    except (KeyError, ValueError, TypeError, AttributeError, RecursionError) as fault:
         raise Refused(f"{certificate.FILE_NAME} is missing or can't be read: {fault!r}") from fault
     return told
 
@@ -82,34 +81,16 @@ def rows_of(contents: Contents, name: str) -> list[dict[str, str]]:
     return catalogue.csv_table(contents[f"{name}.csv"].decode())
 
 
-def want_pieces(contents: Contents, told: dict[str, Any]) -> None:
-    """Stops if the pieces of archives aren't those of tracedesk-chain, or the boards not those of
-    the pieces.
+def want_boards(contents: Contents) -> None:
+    """Stops if the boards, or the serials of a customer that hold a piece, aren't those of the
+    pieces.
     """
-    answers = {
-        line["line"]: catalogue.csv_table(contents[line["chain"]["file"]].decode())
-        for line in told["lines"]
-        if line["chain"] and line["chain"]["file"] in contents
-    }
-    wanted = [(line, *traced(row)) for line, rows in answers.items() for row in rows]
-    pieces = rows_of(contents, "pieces")
-    got = [(row["line"], *traced(row)) for row in pieces if row["line"] in answers]
-    if sorted(got) != sorted(wanted):
-        raise Refused("pieces.csv has not the pieces that tracedesk-chain answered")
-    boards = {row["board"] for row in pieces}
-    if "boards.csv" in contents and {row["board"] for row in rows_of(contents, "boards")} != boards:
-        raise Refused("boards.csv has not the boards of pieces.csv")
-    if "serials.csv" in contents and holding(contents) != boards:
-        raise Refused("serials.csv has not the boards of pieces.csv")
-
-
-def traced(row: dict[str, str]) -> tuple[str, ...]:
-    return row["file"], *(row[name] for name in TRACE)
-
-
-def holding(contents: Contents) -> set[str]:
-    """The serials of a customer that hold a piece."""
-    return {row["board"] for row in rows_of(contents, "serials") if row["holds"] == "yes"}
+    if "serials.csv" in contents:
+        boards = {row["board"] for row in rows_of(contents, "serials") if row["holds"] == "yes"}
+    else:
+        boards = {row["board"] for row in rows_of(contents, "boards")}
+    if boards != {row["board"] for row in rows_of(contents, "pieces")}:
+        raise Refused("its boards are not those of its pieces")
 
 
 def said(told: dict[str, Any]) -> str:
@@ -118,7 +99,9 @@ def said(told: dict[str, Any]) -> str:
     question = f"{its['kind']} {its['name']}" if its["kind"] != "reels" else its["name"]
     question += "".join(f" {name} {its[name]}" for name in ("part", "within") if its[name])
     lines = ", ".join(line["line"] for line in told["lines"])
-    whole = "complete" if told["answer"]["is_complete"] else "NOT COMPLETE, as question.txt says"
+    whole = (
+        "complete" if told["answer"]["is_complete"] else "NOT COMPLETE, as certificate.json says"
+    )
     own = f" {told['customer']}" if "customer" in told else ""
     return f"{question}, asked at {told['asked_at']} of the lines {lines}: {whole}.{own}"
 
@@ -137,23 +120,36 @@ def again(
     if not chain:
         raise chains.NoAnswer("there is no tracedesk-chain next to tracedesk: CHAIN names it")
     (room / LISTED).write_bytes(contents.get(LISTED, b""))
+    pieces, own = rows_of(contents, "pieces"), None
+    if "serials.csv" in contents:
+        own = {row["board"] for row in rows_of(contents, "serials")}
     for line in told["lines"]:
         archives = [its for its in line["archives"] if its["file"] != RUNNING]
         if not archives:
             continue
         paths = [file_of(folders, its["file"], its["sha256"]) for its in archives]
-        if not line["chain"]:
-            raise Refused(f"{line['line']}: its archives were not asked by tracedesk-chain")
-        words = [str(room / it) if it == LISTED else it for it in line["chain"]["words"]]
+        if not line["is_chain"]:
+            raise Refused(f"{line['line']}: its archives were no chain")
+        words = [str(room / it) if it == LISTED else it for it in line["words"]]
         digits = [its["sha256"][: model.DIGITS] for its in archives]
         answer = chains.asked(chain, words, paths, digits)
-        if hashlib.sha256(bytes_of(answer.text)).hexdigest() != line["chain"]["sha256"]:
+        wanted = [
+            (archives[row["file"]]["file"], catalogue.spelled(int(row["minute"])), *traced(row))
+            for row in answer.rows
+            if own is None or row["board"] in own
+        ]
+        got = [
+            (row["file"], row["minute"], *traced(row))
+            for row in pieces
+            if row["line"] == line["line"] and row["file"] != RUNNING
+        ]
+        if sorted(got) != sorted(wanted):
             raise Refused(f"{line['line']}: tracedesk-chain answers otherwise about these archives")
-        if "serials.csv" in contents:
-            serials = {row["board"] for row in rows_of(contents, "serials")}
-            if not {row["board"] for row in answer.rows} & serials <= holding(contents):
-                raise Refused(f"{line['line']}: serials.csv lacks a board with a piece")
         yield f"{line['line']}: the answer comes again from its {len(paths)} archives"
+
+
+def traced(row: dict[str, Any]) -> tuple[str, ...]:
+    return tuple(row[name] for name in TRACE)
 
 
 def file_of(folders: Sequence[pathlib.Path], name: str, sha256: str) -> pathlib.Path:

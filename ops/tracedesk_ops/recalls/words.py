@@ -3,18 +3,18 @@ from __future__ import annotations
 
 import argparse
 import csv
-import io
 import os
 import pathlib
 import sys
-from collections.abc import Iterator, Sequence
 from typing import NoReturn
 
-from tracedesk_ops import options, places, plant, reader_of
+from tracedesk_ops import catalogue, options, places, plant, reader_of
 from tracedesk_ops.firstlook import Line
 from tracedesk_ops.recalls import sets
 from tracedesk_ops.recalls.evidence import read_once
 from tracedesk_ops.recalls.tables import Shipped
+
+SHIPPED = ("board", "customer", "date")  # the columns of a list of shipped boards
 
 
 def stop(text: str, status: int = 2) -> NoReturn:
@@ -82,29 +82,6 @@ def want_sense(words: argparse.Namespace) -> None:
         stop(f"{words.evidence}: there is no folder for it", 4)
 
 
-def rows_of(path: pathlib.Path, header: Sequence[str]) -> Iterator[list[str]]:
-    """The rows of a CSV file that has the columns of a header, and may have more; the tool stops
-    where it can't be read.
-    """
-    try:
-        rows = csv.DictReader(
-            io.StringIO(read_once(path).decode("utf-8-sig"), newline=""), strict=True
-        )
-        if lacking := [it for it in header if it not in (rows.fieldnames or [])]:
-            stop(
-                f"{path}: it has no column {', '.join(lacking)}: its first line is"
-                f" {','.join(header)}"
-            )
-        for row in rows:
-            if None in row or None in row.values():
-                stop(
-                    f"{path}, line {rows.line_num}: it has more or fewer fields than the first line"
-                )
-            yield [row[it].strip() for it in header]
-    except (OSError, UnicodeDecodeError, csv.Error) as fault:
-        stop(f"{path}: it can't be read: {fault}")
-
-
 def lines_of(words: argparse.Namespace) -> list[Line]:
     """The lines that are asked: those of the command line, else those of the set-up files."""
     told = words.line or [
@@ -131,12 +108,25 @@ def line_of(name: str, path: str) -> Line:
 
 
 def shipped_of(path: pathlib.Path) -> Shipped:
+    """The customers and dates of boards in a CSV file; the tool stops if it can't be read."""
     shipped: Shipped = {}
-    for board, *row in rows_of(path, ("board", "customer", "date")):
-        if not row[0]:
+    try:
+        text = read_once(path).decode("utf-8-sig")
+        header, *rows = [row for row in catalogue.csv_rows(text) if row] or [[]]
+    except (OSError, UnicodeDecodeError, csv.Error) as fault:
+        stop(f"{path}: it can't be read: {fault}")
+    if lacking := [name for name in SHIPPED if name not in header]:
+        stop(
+            f"{path}: it has no column {', '.join(lacking)}: its first line is {','.join(SHIPPED)}"
+        )
+    for row in rows:
+        if len(row) != len(header):
+            stop(f"{path}: {','.join(row)} has more or fewer fields than the first line")
+        board, *its = (row[header.index(name)].strip() for name in SHIPPED)
+        if not its[0]:
             stop(f"{path}: board {board} has no customer: leave out what was not shipped")
-        if row not in shipped.setdefault(board, []):
-            shipped[board].append(row)
+        if its not in shipped.setdefault(board, []):
+            shipped[board].append(its)
     return shipped
 
 
