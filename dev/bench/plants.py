@@ -29,17 +29,16 @@ from tracedesk_dev import postgres, program
 
 PLANTS, ONE, SEVERAL = ("augsburg", "brno", "cork"), "one", "several"
 REELS, OF_A_BOARD, WARM = 55, 206, 5
-FILE = """SET search_path TO plant; SET work_mem = '256MB'; SET maintenance_work_mem = '256MB'; BEGIN;
-    CREATE TABLE placement_{it} (LIKE placement, CONSTRAINT part CHECK (file = {it}));
-    INSERT INTO placement_{it} SELECT {it}, 'B{it}-' || n / {of_a_board}, 'C' || n % {of_a_board}, 'L1-M1', n % {reels},
-        'R{it}-' || n % {reels}, false, n / 100 FROM generate_series(1, {pieces}) n ORDER BY n % {reels}, n;
-    CREATE INDEX ON placement_{it} (reel); CREATE INDEX ON placement_{it} (board); ANALYZE placement_{it};
-    INSERT INTO file VALUES ({it}, 'L' || {it} % 10, 'archive-{it}', md5('{it}'), 1, 9, {pieces}, '');
+FILE = """SET search_path TO plant; SET work_mem = '256MB'; BEGIN;
     INSERT INTO line VALUES ('L' || {it} % 10, NULL) ON CONFLICT DO NOTHING;
-    INSERT INTO reel SELECT {it}, 'R{it}-' || n, 'P' || n, CASE WHEN n < 2 AND {it} % 5 = 0 THEN 'LOT' ELSE 'LOT-{it}-' || n END
+    INSERT INTO file (line, name, sha256, place, begun, commands, entries, rows, pieces, until, sealed)
+        SELECT 'L' || {it} % 10, 'archive-{it}', {it}, {it}, '', 1, 0, '', {pieces}, now(), now();
+    INSERT INTO reel SELECT currval('file_id_seq'), 'R{it}-' || n, 'P' || n,
+        CASE WHEN n < 2 AND {it} % 5 = 0 THEN 'LOT' ELSE 'LOT-{it}-' || n END
         FROM generate_series(0, {reels} - 1) n;
-    INSERT INTO start SELECT {it}, n, 'L1-M1', 'B{it}-' || n, n FROM generate_series(0, {pieces} / {of_a_board}) n;
-    ALTER TABLE placement ATTACH PARTITION placement_{it} FOR VALUES IN ({it}); COMMIT"""
+    INSERT INTO placement SELECT currval('file_id_seq'), 'B{it}-' || n / {of_a_board},
+        'C' || n % {of_a_board}, 'L1-M1', n % {reels}, 'R{it}-' || n % {reels}, false, n / 100
+        FROM generate_series(1, {pieces}) n ORDER BY n % {reels}, n; COMMIT"""
 
 
 def asked(server: postgres.Server, name: str, *words: object) -> str:
@@ -54,7 +53,7 @@ def filled(server: postgres.Server, name: str, files: range, pieces: int) -> Non
     for it in files:
         text = FILE.format(it=it, pieces=pieces, of_a_board=OF_A_BOARD, reels=REELS)
         asked(server, name, "-c", text)
-    asked(server, name, "-c", "INSERT INTO plant.state DEFAULT VALUES", "-c", "VACUUM ANALYZE")
+    asked(server, name, "-c", "VACUUM ANALYZE")
 
 
 def added(servers: dict[str, postgres.Server]) -> None:

@@ -28,9 +28,9 @@ CREATE SERVER :"dbname" FOREIGN DATA WRAPPER postgres_fdw OPTIONS (
     connect_timeout '10', tcp_user_timeout '30000', options :'limit');
 CREATE USER MAPPING FOR PUBLIC SERVER :"dbname" OPTIONS (user :'user', password :'password');
 CREATE SCHEMA :"own";
-IMPORT FOREIGN SCHEMA plant LIMIT TO (known, asked, begun, fault, doubt, states)
+IMPORT FOREIGN SCHEMA plant LIMIT TO (piece, known, saying, newest)
     FROM SERVER :"dbname" INTO :"own";
-SELECT count(*) < 6 AS is_older FROM pg_class
+SELECT count(*) < 4 AS is_older FROM pg_class
     WHERE relnamespace = :'own'::regnamespace AND relkind = 'f' \gset
 \if :is_older
     DO $$ BEGIN
@@ -52,9 +52,8 @@ BEGIN
     FOR plant IN SELECT name FROM expected LOOP
         fault := 'it was not asked: add.sql adds it';
         IF EXISTS (SELECT FROM pg_foreign_server WHERE srvname = plant) THEN BEGIN
-            EXECUTE format('SELECT count(it) FROM fault it WHERE plant = %L AND fault = %L',
-                           plant, '');
-            EXECUTE format('SELECT count(it) FROM asked it WHERE plant = %L AND kind = %L',
+            EXECUTE format('SELECT count(it) FROM saying it WHERE plant = %L', plant);
+            EXECUTE format('SELECT count(it) FROM piece it WHERE plant = %L AND lot = %L',
                            plant, '');
             fault := NULL;
         EXCEPTION WHEN OTHERS OR query_canceled THEN

@@ -3,6 +3,7 @@
 \set ON_ERROR_STOP on
 \set QUIET on
 SET search_path TO plant;
+\set names known
 \if :{?lot}
     \set kind lot
     \set wanted :lot
@@ -12,10 +13,10 @@ SET search_path TO plant;
 \else
     \set kind board
     \set wanted :board
+    \set names piece
 \endif
 BEGIN ISOLATION LEVEL REPEATABLE READ READ ONLY;
--- nobody knows how many pieces a name has in other plants
-SET LOCAL jit = off; SET LOCAL enable_nestloop = off;
+SET LOCAL jit = off;
 SELECT coalesce(array_agg(plant) FILTER (WHERE fault IS NULL), '{}') AS plants,
        coalesce(string_agg(named(plant, fault, ': '), E'\n' ORDER BY plant), '') AS away
 FROM asking() \gset

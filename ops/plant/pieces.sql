@@ -5,7 +5,7 @@
 \ir begin.sql
 SELECT board, designator, part, lot, reel, machine, slot, overdue, spelled(at) AS minute,
        named(plant, line) AS line, file
-FROM asked WHERE kind = :'kind' AND wanted = :'wanted' AND plant = ANY (:'plants')
-ORDER BY board COLLATE "C", named(plant, line) COLLATE "C", designator COLLATE "C", until;
+FROM piece WHERE :"kind" = :'wanted' AND plant = ANY (:'plants')
+ORDER BY board COLLATE "C", named(plant, line) COLLATE "C", designator COLLATE "C", place;
 \ir whole.sql
 COMMIT;

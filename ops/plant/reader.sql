@@ -8,9 +8,6 @@ BEGIN;
 SELECT format('%s ROLE %I LOGIN PASSWORD %L', CASE WHEN
     EXISTS (SELECT FROM pg_roles WHERE rolname = :'role') THEN 'ALTER' ELSE 'CREATE' END,
     :'role', :'password') \gexec
-SELECT pg_get_userbyid(nspowner) AS owner FROM pg_namespace WHERE nspname = 'plant' \gset
 GRANT USAGE ON SCHEMA plant TO :"role";
 GRANT SELECT ON ALL TABLES IN SCHEMA plant TO :"role";
--- on those of later loads
-ALTER DEFAULT PRIVILEGES FOR ROLE :"owner" IN SCHEMA plant GRANT SELECT ON TABLES TO :"role";
 COMMIT;

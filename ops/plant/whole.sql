@@ -1,51 +1,32 @@
--- Says, on standard error, what keeps the answer of the same transaction from being exact, and ends
--- with status 3 then, or where no file knows the name. A user's file has the state in which the
--- tables of each plant were at the last question: it is known by that if a database was put back to
--- an older state.
+-- Says, on standard error, as of when the answer of the same transaction is, and what keeps it from
+-- being exact. Then, or if no file knows the name, it ends with status 3. A file of the user's keeps
+-- as of when the answers were: an older one is of a database that was put back to an older state.
 \set seen `cat "${TRACEDESK_SEEN:-$HOME/.tracedesk-plant}" 2> /dev/null`
+\set here :HOST ' ' :PORT ' ' :DBNAME
 WITH seen AS (
-    SELECT split_part(row, ' ', 1) AS own, split_part(row, ' ', 2) AS last
-    FROM regexp_split_to_table(:'seen', '\n') row
+    SELECT its[2] AS plant, its[3] AS line, its[4]::timestamptz AS at
+    FROM (SELECT string_to_array(row, E'\t') AS its FROM string_to_table(:'seen', E'\n') row) rows
+    WHERE its[1] = :'here'
 ), its AS (
-    SELECT plant, token::text FROM states WHERE plant = ANY (:'plants')
-)
-SELECT count(*) > 0 AS went_back, string_agg(plant, ', ' ORDER BY plant) AS back
-FROM its JOIN seen ON token = own WHERE last NOT IN (SELECT token FROM its) \gset
-WITH its AS (
-    SELECT * FROM faults(:'kind', :'wanted', :'plants')
+    SELECT * FROM said_of(:'kind', :'wanted', :'plants')
     UNION ALL SELECT :'away', false WHERE :'away' <> ''
+    UNION ALL SELECT format('%s was as of %s at your last question: load it again. If it was taken'
+        ' out since, take it out of ~/.tracedesk-plant', named(plant, line), spelled(at)), false
+    FROM seen LEFT JOIN (SELECT * FROM newest WHERE plant = ANY (:'plants')) now USING (plant, line)
+    WHERE plant = ANY (:'plants') AND (sealed < at) IS NOT FALSE
 )
-SELECT count(*) FILTER (WHERE NOT is_note) > 0 AS is_faulty,
-       string_agg(said, E'\n' ORDER BY said) FILTER (WHERE NOT is_note) AS faults,
-       count(*) FILTER (WHERE is_note) > 0 AS is_noted,
-       string_agg(said, E'\n' ORDER BY said) FILTER (WHERE is_note) AS notes,
-       EXISTS (SELECT FROM known WHERE kind = :'kind' AND wanted = :'wanted'
-           AND plant = ANY (:'plants')) AS known
+SELECT bool_or(NOT is_note) IS TRUE AS is_faulty,
+       coalesce(string_agg(said, E'\n' ORDER BY is_note DESC, said), '') AS said,
+       EXISTS (SELECT FROM :names WHERE plant = ANY (:'plants') AND :"kind" = :'wanted') AS known
 FROM its \gset
-\if :is_noted
-    \warn :notes
-\endif
-\if :went_back
-    \warn 'the tables are in an older state than at the last question:' :back
-    \warn 'load the newest copies of all its lines, and then remove ~/.tracedesk-plant'
-    \warn 'or the file that TRACEDESK_SEEN names'
-    DO $$ BEGIN RAISE EXCEPTION 'the answer is not exact: the lines above say why'; END $$;
-\endif
-\setenv TO 'file="${TRACEDESK_SEEN:-$HOME/.tracedesk-plant}"'
-\setenv KEEP '{ cat > "$file.$$" && mv -T "$file.$$" "$file"; } 2> /dev/null'
-\setenv SAY 'rm -f "$file.$$"; echo "$file: the state of the tables can''t be kept in it" >&2'
-WITH seen AS (
-    SELECT row, split_part(row, ' ', 1) AS own FROM regexp_split_to_table(:'seen', '\n') row
-    WHERE row <> ''
-), its AS (
-    SELECT plant, token::text, number FROM states WHERE plant = ANY (:'plants')
-)
-SELECT row FROM seen WHERE own NOT IN (SELECT token FROM its)
-UNION ALL SELECT (array_agg(token ORDER BY number))[1] || ' '
-    || (array_agg(token ORDER BY number DESC))[1] FROM its GROUP BY plant
-\g (format=unaligned tuples_only=on) |eval "$TO"; eval "$KEEP" || eval "$SAY"
+\warn :said
+\setenv NEWEST 'sort -r | LC_ALL=C sort -t "$(printf "\\t")" -usk 1,3'
+\setenv KEEP '{ cat; cat "$file" 2> /dev/null; } | eval "$NEWEST" > "$file.$$" && mv -T "$file.$$" "$file"'
+\setenv FILE 'file="${TRACEDESK_SEEN:-$HOME/.tracedesk-plant}"'
+SELECT concat_ws(E'\t', :'here', plant, line, spelled(sealed)) FROM newest
+WHERE plant = ANY (:'plants') AND sealed IS NOT NULL
+\g (format=unaligned tuples_only=on) |eval "$FILE"; eval "$KEEP"
 \if :is_faulty
-    \warn :faults
     DO $$ BEGIN RAISE EXCEPTION 'the answer is not exact: the lines above say why'; END $$;
 \elif :known
 \else

@@ -8,15 +8,17 @@ import pytest
 
 pytest.register_assert_rewrite("lab")
 
-from lab import installed as installations, line as lines  # noqa: E402
+from lab import databases, installed as installations, line as lines  # noqa: E402
 from lab import messages, small, world as worlds  # noqa: E402
 from lab.checked import Checked  # noqa: E402
+from lab.databases import Database  # noqa: E402
 from lab.desk import Desk  # noqa: E402
 from lab.installed import Installed  # noqa: E402
 from lab.line import Line, NewLine  # noqa: E402
 from lab.machine import Machine  # noqa: E402
 from lab.shifted import Shifted  # noqa: E402
 from lab.world import World  # noqa: E402
+from tracedesk_dev import postgres  # noqa: E402
 
 
 @pytest.fixture
@@ -114,6 +116,22 @@ def world(program: pathlib.Path) -> Iterator[World]:
             yield made
         finally:
             made.end()
+
+
+@pytest.fixture(scope="module")
+def server() -> Iterator[postgres.Server]:
+    databases.skip_without()
+    with databases.server() as made:
+        yield made
+
+
+@pytest.fixture
+def database(server: postgres.Server) -> Iterator[Database]:
+    """A new one, with the tables of a plant."""
+    made = databases.create(server, "plant_of_a_test")
+    yield made
+    drop = f"DROP DATABASE {made.name} WITH (FORCE)"
+    Database(server, "postgres").psql("-c", drop)
 
 
 @pytest.fixture

@@ -1,4 +1,6 @@
-"""What a load can meet: no piece is there twice, and each recall names what is missing."""
+"""What a load can meet: the tables have a line's chain whole, or say why not. No piece is there
+twice.
+"""
 import pathlib
 import re
 import shutil
@@ -7,91 +9,50 @@ import subprocess
 from typing import Iterator
 
 import pytest
-from lab import databases, messages, plants
-from lab.databases import SQL, Database
-from lab.plants import WorkedLine, missing, parts, pieces
+from lab import databases, plants
+from lab.databases import Database
+from lab.plants import WorkedLine, expect_whole, pieces
+from lab.line import table
 from lab.tools import tool
 from lab.waits import wait_for
-from lab.world import RUNNING
-from tracedesk_dev import postgres, shift
+from tracedesk_dev import postgres
 
 pytestmark = [pytest.mark.xdist_group("plant_load")]
 
-SEED, BOARDS = 7, 10
 MANY = "SELECT lot FROM piece GROUP BY 1 ORDER BY count(*) DESC LIMIT 1"
 OTHERS = """SELECT count(*) FROM pg_stat_activity
     WHERE datname = current_database() AND pid <> pg_backend_pid()"""
 
 
 @pytest.fixture(scope="module")
-def server() -> Iterator[postgres.Server]:
-    databases.skip_without()
-    with databases.server() as made:
-        yield made
-
-
-@pytest.fixture
-def database(server: postgres.Server) -> Iterator[Database]:
-    """A new one, with the tables of a plant."""
-    made = databases.create(server, "plant_of_a_test")
-    yield made
-    drop = f"DROP DATABASE {made.name} WITH (FORCE)"
-    Database(server, "postgres").psql("-c", drop)
-
-
-@pytest.fixture(scope="module")
 def line(program: pathlib.Path, tmp_path_factory: pytest.TempPathFactory) -> Iterator[WorkedLine]:
-    """A line that is rolled over twice and copied."""
+    """A line that is rolled over twice and sealed."""
     made = WorkedLine(program, tmp_path_factory.mktemp("line") / "L1", "L1")
     try:
         made.serve()
-        made.work(messages.parts_of(shift.Shift(SEED, BOARDS, "L1").lines, 3))
+        made.work(plants.parts_of_work())
         yield made
     finally:
         made.end()
 
 
-class Wanted:
-    """What an undisturbed load makes."""
-
-    def __init__(self, database: Database) -> None:
-        self.files, self.pieces = plants.files(database), pieces(database)
-        ((self.lot,),) = database.rows(MANY)
-
-    def expect_files(self, database: Database) -> int:
-        """Looks whether whole files are there and nothing else is; how many there are."""
-        files = plants.files(database)
-        names = {row[1] for row in files}
-        assert [row for row in files if row not in self.files] == []
-        assert pieces(database) == [row for row in self.pieces if row[1] in names]
-        assert parts(database) == len(files)
-        return len(files)
-
-    def expect_all(self, database: Database) -> None:
-        assert (plants.files(database), pieces(database)) == (self.files, self.pieces)
-        assert missing(database) == []
-
-
 @pytest.fixture(scope="module")
-def wanted(line: WorkedLine, server: postgres.Server) -> Wanted:
-    undisturbed = databases.create(server, "undisturbed")
-    undisturbed.load(line.kept()[-1])
-    return Wanted(undisturbed)
+def wanted(line: WorkedLine, server: postgres.Server) -> Database:
+    """The database of an undisturbed load."""
+    made = databases.create(server, "undisturbed")
+    made.load(line.kept()[-1])
+    return made
 
 
-def expect_three(database: Database) -> None:
-    """All three files are there."""
-    assert (parts(database), missing(database)) == (3, [])
-
-
-# --- Files that are refused
+# --- Folders that are refused
 
 # what is altered, and what is said of it
 ALTERED = {
     "a damaged archive": "was changed, or has another file's name",
     "a missing archive": "is missing, from which",
     "an archive with a log": "-wal next to it",
-    "a damaged desk": "was changed, or has another file's name",
+    "no folder of what restores took off": "lost can't be read",
+    "a damaged newest file": "was changed, or has another file's name",
 }
 
 
@@ -107,66 +68,55 @@ def altered(line: WorkedLine, folder: pathlib.Path, name: str) -> pathlib.Path:
     copy = folder / "altered/L1"
     shutil.copytree(line.kept()[-1], copy)
     archive = copy / "sealed" / line.archived[0].name
-    if name == "a damaged archive":
-        damage(archive)
-    elif name == "a damaged desk":
-        damage(copy / "sealed" / line.newest().name)
-    elif name == "a missing archive":
+    if name == "a missing archive":
         archive.unlink()
-    else:
+    elif "took off" in name:
+        shutil.rmtree(copy / "lost")
+    elif name == "an archive with a log":
         archive.with_name(f"{archive.name}-wal").write_bytes(bytes(5_000))
+    else:
+        damage(copy / "sealed" / line.newest().name if "newest" in name else archive)
     return copy
 
 
 @pytest.mark.parametrize("name", ALTERED)
-def test_a_file_that_is_refused_is_missing_until_it_comes_whole(
-    line: WorkedLine, database: Database, wanted: Wanted, folder: pathlib.Path, name: str
+def test_a_line_stays_as_it_was_until_its_folder_is_whole(
+    line: WorkedLine, database: Database, wanted: Database, folder: pathlib.Path, name: str
 ) -> None:
-    file = RUNNING if name == "a damaged desk" else line.archived[0].name
-    said = database.refuse(ALTERED[name], altered(line, folder, name))
-    digits = line.newest().stem if file == RUNNING else file.partition(".")[0]
-    assert digits in said
-    assert said.count(" pieces\n") == 2  # of the others
+    database.load(line.kept()[0])
+    before = pieces(database)
+    ((lot,),) = database.rows(MANY)
+    database.refuse(ALTERED[name], altered(line, folder, name))
+    assert pieces(database) == before
     for query in ("pieces", "recall"):
-        told = database.query(query, 3, lot=wanted.lot)
-        assert told.rows and re.search(f"without .*({file}|{digits})", told.said)
+        told = database.query(query, 3, lot=lot)
+        assert told.rows and "L1 was not loaded: " in told.said and ALTERED[name] in told.said
     database.load(line.kept()[-1])
-    expect_three(database)
+    assert plants.state(database) == plants.state(wanted)
 
 
-# --- Lines
-
-
-def test_a_desk_is_not_loaded_as_another_lines(line: WorkedLine, database: Database) -> None:
-    database.load(line.kept()[0])
-    its = "it is the desk of the line L1, whose running desk is loaded"
-    database.refuse(its, "--line", "L3", line.kept()[0])
-
-
-def test_a_desk_stays_until_its_archive_is_whole(
-    line: WorkedLine, database: Database, folder: pathlib.Path
+def test_a_line_that_was_mistyped_goes(
+    line: WorkedLine, database: Database, wanted: Database
 ) -> None:
-    database.load(line.kept()[0])
-    before = [(row[0], *row[2:]) for row in pieces(database)]
-    database.load(altered(line, folder, "a damaged archive"), status=1)
-    of_desks = [row for row in pieces(database) if row[1].startswith("desk of ")]
-    assert [(row[0], *row[2:]) for row in of_desks] == before
-    database.load(line.kept()[-1])
-    expect_three(database)
-
-
-def test_a_line_that_was_mistyped_is_dropped(line: WorkedLine, database: Database) -> None:
     database.load("--line", "L11", line.kept()[0])
-    database.refuse("whose running desk is loaded, and not of L1", line.kept()[-1])
-    database.drop(line="L11", name=RUNNING)
-    its = database.rows("SELECT name FROM missing WHERE line = 'L11' ORDER BY 1")
-    assert its == [("all of it",), ("newer pieces",)]
+    database.refuse("its files are loaded as the line L11", line.kept()[-1])
     database.change("DELETE FROM line WHERE name = 'L11'")
+    assert database.rows("SELECT count(*) FROM placement") == [("0",)]
     database.load(line.kept()[-1])
-    expect_three(database)
+    assert plants.state(database) == plants.state(wanted)
 
 
-def test_lines_of_the_set_up_are_loaded_and_one_without_a_sealed_file_is_missing(
+def test_older_files_are_refused(line: WorkedLine, database: Database) -> None:
+    database.load(line.kept()[-1])
+    before = pieces(database)
+    database.refuse("its files are older than those that are loaded", line.kept()[0])
+    assert pieces(database) == before
+    expect_whole(database, 3)
+    database.load(line.kept()[-1])
+    expect_whole(database)
+
+
+def test_lines_of_the_set_up_are_loaded_and_one_without_a_file_is_named(
     line: WorkedLine, database: Database, folder: pathlib.Path
 ) -> None:
     for name, db, port in (("L1", line.file, 8081), ("L8", folder / "L8/desk", 8082)):
@@ -174,94 +124,114 @@ def test_lines_of_the_set_up_are_loaded_and_one_without_a_sealed_file_is_missing
         (folder / f"{name}.conf").write_text(text)
     said = database.load(status=1, TRACEDESK_SET_UP=str(folder))
     assert said.count(" pieces\n") == 3
-    assert {row for row in database.rows("SELECT line FROM missing")} == {("L8",)}
+    ((lot,),) = database.rows(MANY)
+    assert "L8 was not loaded: " in database.query("pieces", 3, lot=lot).said
 
 
-# --- Files that are taken out
-
-
-def test_a_file_that_is_taken_out_is_missing_until_it_is_loaded_again(
-    line: WorkedLine, database: Database
+def test_a_database_that_is_put_back_is_named(
+    line: WorkedLine, server: postgres.Server, database: Database
 ) -> None:
+    """To who has asked a newer state; the next load mends it."""
+    database.load(line.kept()[0])
+    ((lot,),) = database.rows(MANY)
+    assert "as of L1 2026-03-01" in database.query("recall", lot=lot).said
+    dump = databases.create(server, "dump", schema="", more=f"TEMPLATE {database.name}")
     database.load(line.kept()[-1])
-    name = line.archived[0].name
-    database.drop(line="L1", name=name)
-    link = f"archive {name.partition('.')[0]}"  # the next one was begun from it
-    assert (parts(database), set(missing(database))) == (2, {name, link})
+    newer = database.query("recall", lot=lot)
+    of_all = Database(server, "postgres")
+    of_all.psql("-c", f"DROP DATABASE {database.name}")
+    of_all.psql("-c", f"ALTER DATABASE {dump.name} RENAME TO {database.name}")
+    for query in ("recall", "pieces", "recall"):
+        said = database.query(query, 3, lot=lot).said
+        assert "L1 was as of 2026-03-03T06:00:00Z at your last question" in said
     database.load(line.kept()[-1])
-    expect_three(database)
+    assert database.query("recall", lot=lot) == newer
 
 
-def test_what_is_dropped_by_a_day_is_named_and_not_loaded_again(
-    line: WorkedLine, database: Database, wanted: Wanted
+def test_a_load_amid_a_recall_changes_nothing_of_its_answer(
+    line: WorkedLine, database: Database, folder: pathlib.Path
 ) -> None:
+    database.load(line.kept()[0])
+    ((lot,),) = database.rows(MANY)
+    before = database.query("pieces", lot=lot)
+    text = (databases.SQL / "pieces.sql").read_text().replace("\\ir ", f"\\ir {databases.SQL}/")
+    load = f"\\! {tool('plant-load')} {line.kept()[-1]} > {folder}/said\n"
+    (folder / "amid.sql").write_text(text.replace("SELECT board", f"{load}SELECT board"))
+    done = database.psql("--csv", "-v", f"lot={lot}", "-f", folder / "amid.sql")
+    assert " pieces\n" in (folder / "said").read_text()
+    assert (table(done.out), done.err) == before
+    assert database.query("pieces", lot=lot).rows != before.rows
+
+
+# what is expected of lines, what takes it back, and what is said
+EXPECTED = {
+    "a line that was never loaded": (
+        "INSERT INTO line VALUES ('L7')",
+        "DELETE FROM line WHERE name = 'L7'",
+        "no file of L7 is loaded",
+    ),
+    "a newer file": (
+        "UPDATE line SET oldest = '1 day'",
+        "UPDATE line SET oldest = '100 years'",
+        "the newest file of L1 is of 2026-",
+    ),
+    "a line": (
+        "CREATE TABLE kept AS TABLE line; ALTER TABLE file DROP CONSTRAINT file_line_fkey;"
+        " ALTER TABLE doubt DROP CONSTRAINT doubt_line_fkey; DELETE FROM line",
+        "INSERT INTO line TABLE kept",
+        "the table line is empty",
+    ),
+}
+
+
+@pytest.mark.parametrize("name", EXPECTED)
+def test_what_is_expected_of_lines(line: WorkedLine, database: Database, name: str) -> None:
+    change, back, said = EXPECTED[name]
     database.load(line.kept()[-1])
-    database.drop(before="2036-01-01")
-    said = database.load(line.kept()[-1])
-    assert f"{line.archived[0].name}: dropped, and not loaded again" in said
-    told = database.query("pieces", 3, lot=wanted.lot)
-    assert "without 2 files up to" in told.said
-    assert {row["file"] for row in told.rows} <= {RUNNING}
+    ((lot,),) = database.rows(MANY)
+    assert "as of L1 2026-03-" in database.query("recall", lot=lot).said
+    database.change(change)
+    assert said in database.query("recall", 3, lot=lot).said
+    database.change(back)
+    database.query("recall", lot=lot)
 
 
-@pytest.mark.parametrize("change", ["a load", "drop.sql"])
-def test_a_file_that_is_taken_out_amid_a_recall_is_an_error(
-    line: WorkedLine, database: Database, wanted: Wanted, folder: pathlib.Path, change: str
-) -> None:
-    if change == "a load":
-        database.load(line.kept()[0])
-        command = f"{tool('plant-load')} {line.kept()[-1]}"
-    else:
-        database.load(line.kept()[-1])
-        command = f"psql -X -q -v before=2036-01-01 -f {SQL}/drop.sql"
-    (folder / "amid.sql").write_text(
-        "BEGIN ISOLATION LEVEL REPEATABLE READ READ ONLY; SELECT FROM plant.file;\n"
-        f"\\! {command}\nSELECT FROM plant.pieces_of('lot', '{wanted.lot}'); COMMIT"
-    )
-    done = database.psql("-f", folder / "amid.sql", status=3)
-    assert "was taken out or replaced meanwhile: ask again" in done.err
+def test_a_name_that_no_file_knows(wanted: Database) -> None:
+    for kind in ("lot", "reel", "board"):
+        assert (
+            "no file that is loaded knows the name" in wanted.query("pieces", 3, **{kind: "X"}).said
+        )
+
+
+def test_tables_of_an_older_version_are_refused(server: postgres.Server) -> None:
+    old = databases.create(server, "old", schema="")
+    old.psql("-c", "CREATE SCHEMA plant; CREATE TABLE plant.command (file integer)")
+    assert "these are tables of an older version" in old.query("schema", 3).said
 
 
 # --- Kills, and a full disk
 
 
-STEPS = {  # of a load, by the number of whole files behind it
-    "begun": 0,
-    "rows of its": 0,
-    "created": 0,
-    "rows of placement": 0,
-    "indexed": 0,
-    "rows of reel": 0,
-    "attached": 0,
-    "committed": 1,
-}
-
-
-def kill(line: WorkedLine, database: Database, step: str) -> None:
-    """Kills a load after a step, and waits until its session has ended."""
+@pytest.mark.parametrize("step", ["copied", "added"])
+def test_a_load_that_is_killed_changes_nothing(
+    line: WorkedLine, database: Database, wanted: Database, step: str
+) -> None:
+    """A recall says that its load has not ended, until the next one is done."""
+    database.load(line.kept()[0])
+    before = pieces(database)
+    ((lot,),) = database.rows(MANY)
     database.load(line.kept()[-1], status=-signal.SIGKILL, TRACEDESK_KILL_AFTER=step)
     wait_for("its session has ended", lambda: database.rows(OTHERS) == [("0",)])
-
-
-@pytest.mark.parametrize("step", STEPS)
-def test_a_load_that_is_killed_leaves_whole_files_alone(
-    line: WorkedLine, database: Database, wanted: Wanted, step: str
-) -> None:
-    """And a recall names what is missing, until the next load is done."""
-    kill(line, database, step)
-    assert wanted.expect_files(database) == STEPS[step]
-    if database.rows("SELECT FROM reel LIMIT 1"):
-        database.query("pieces", 3, lot=wanted.lot)
+    assert pieces(database) == before
+    assert "L1 was not loaded: its load has not" in database.query("recall", 3, lot=lot).said
     database.load(line.kept()[-1])
-    wanted.expect_all(database)
+    assert plants.state(database) == plants.state(wanted)
 
 
 @pytest.mark.root
-@pytest.mark.parametrize("room", [150, 500, 60], ids=["first file", "later file", "at once"])
-def test_a_full_disk_leaves_whole_files_alone(
-    line: WorkedLine, server: postgres.Server, wanted: Wanted, folder: pathlib.Path, room: int
+def test_a_full_disk_changes_nothing(
+    line: WorkedLine, server: postgres.Server, wanted: Database, folder: pathlib.Path
 ) -> None:
-    """With room again the next load brings the rest. So many kB are left for a load."""
     disk = folder / "disk"
     disk.mkdir()
     subprocess.run(["mount", "-t", "tmpfs", "-o", "size=200m", "small", disk], check=True)
@@ -271,15 +241,13 @@ def test_a_full_disk_leaves_whole_files_alone(
         shutil.chown(disk, "postgres")
         its.psql("-c", f"CREATE TABLESPACE small LOCATION '{disk}'")
         small = databases.create(server, "small", more="TABLESPACE small")
-        resize(disk, f"{shutil.disk_usage(disk).used // 1024 + room}k")
+        resize(disk, f"{shutil.disk_usage(disk).used // 1024 + 150}k")
         said = small.load(line.kept()[-1], status=1)
         resize(disk, "200m")  # on a full one a new session may not begin
-        # amid a table, or as a session begins
-        full = "Check free disk space|could not write init file|No space left on device"
-        assert re.search(full, said)
-        assert wanted.expect_files(small) < len(wanted.files)
+        assert re.search("free disk space|could not write init file|No space left", said)
+        assert pieces(small) == []
         small.load(line.kept()[-1])
-        wanted.expect_all(small)
+        assert plants.state(small) == plants.state(wanted)
         its.psql("-c", "DROP DATABASE small")
         its.psql("-c", "DROP TABLESPACE small")
     finally:

@@ -4,110 +4,80 @@ import re
 from typing import Any, Iterator
 
 import pytest
-from lab import databases, messages
+from lab import messages, plants
 from lab.databases import Database
 from lab.messages import FIRST_LINE
-from lab.plants import WorkedLine, expect_whole, missing, pieces
+from lab.plants import WorkedLine, expect_whole, pieces
 from lab.recalls import recalled
 from lab.records import a_record, refused
 from lab.tools import Word
-from tracedesk_dev import shift
-from tracedesk_ops import collecting, untraced
+from tracedesk_ops import collecting, doubts, lineage, loading, untraced
+from tracedesk_ops.tapes import DoubtfulPiece, Tapes
 
 pytestmark = [pytest.mark.xdist_group("plant_load_lines")]
 
-SEED, BOARDS = 9, 12
-OLDER = "2026-03-02T060000Z"  # the day of the file that is loaded before the desk goes back
-SAYS = r"doubtful piece of D1: (\w+) of board B1, \S+, may not be of K\d"
+SAYS = r"doubtful piece of D1: (\w+) of board"
 
 
-@pytest.fixture(scope="module")
-def made(tmp_path_factory: pytest.TempPathFactory) -> Iterator[Database]:
-    databases.skip_without()
-    with databases.server() as server:
-        yield databases.create(server, "template_of_all")
+# --- A desk that goes back to an older file
 
 
 @pytest.fixture
-def database(made: Database) -> Iterator[Database]:
-    """A new one, with the tables of a plant."""
-    its = databases.create(made.server, "plant_of_a_test", schema="", more=f"TEMPLATE {made.name}")
-    yield its
-    made.psql("-c", f"DROP DATABASE {its.name} WITH (FORCE)")
-
-
-# --- A desk that goes back to an older copy
-
-
-class Restored:
-    """A line that went back to its oldest copy, and gets its messages in another order."""
-
-    def __init__(self, line: WorkedLine, database: Database) -> None:
-        self.line, self.database, self.others, self.first = line, database, 0, ""
-        parts = messages.parts_of(shift.Shift(SEED, BOARDS, "R1").lines, 3)
-        self.sent = [part.splitlines() for part in parts]
-
-    def go_on(self, *said: bytes, status: int = 0) -> pathlib.Path:
-        self.line.post(said)
-        return self.line.copy(status)
-
-    def go_back(self, status: int = 4) -> None:
-        self.line.restore(self.first).expect(status)
-
-    def other(self) -> bytes:
-        """A message that the desk had not before."""
-        self.others += 1
-        return messages.part(f"other-{self.others}")
-
-    def load(self, status: int = 0) -> str:
-        return self.database.load(self.line.kept()[-1], status=status)
-
-    def refuse(self, said: str) -> None:
-        self.database.refuse(said, self.line.kept()[-1])
-
-    def roll_over(self) -> None:
-        self.line.rollover("--with-board-in-work").expect()
-
-
-@pytest.fixture
-def restored(program: pathlib.Path, folder: pathlib.Path, database: Database) -> Iterator[Restored]:
-    """With a copy of its first part and one of both parts; the tables have both."""
+def restored(
+    program: pathlib.Path, folder: pathlib.Path, database: Database
+) -> Iterator[tuple[WorkedLine, list[bytes]]]:
+    """A line that went back to its first file and was told another message, when the tables had
+    both parts of its work; and what it has to be told again.
+    """
+    first, second, _ = plants.parts_of_work()
     line = WorkedLine(program, folder / "R1", "R1")
     line.serve()
-    its = Restored(line, database)
-    its.go_on(*its.sent[0])
-    its.first = line.newest().name
-    its.go_on(*its.sent[1])
-    its.load()
-    yield its
+    line.post(first.splitlines())
+    older = line.copy() / "sealed" / line.newest().name
+    line.post(second.splitlines())
+    database.load(line.copy())
+    line.restore(older.name).expect(4)
+    line.post([messages.part("other", messages.MORNING)])
+    yield line, second.splitlines()
     line.end()
 
 
-def test_the_same_messages_behind_another_one_are_counted_once(restored: Restored) -> None:
-    whole = pieces(restored.database)
-    restored.go_back()
-    restored.go_on(restored.other(), *restored.sent[1])
-    restored.load()
-    assert pieces(restored.database) == whole
-    expect_whole(restored.database)
+def test_what_was_sent_again_after_a_restore_counts_once(
+    restored: tuple[WorkedLine, list[bytes]], database: Database
+) -> None:
+    line, again = restored
+    whole = sorted((row[0], *row[2:]) for row in pieces(database))
+    line.post(again)
+    database.load(line.copy())
+    assert sorted((row[0], *row[2:]) for row in pieces(database)) == whole
+    expect_whole(database)
 
 
-def test_a_file_that_gave_way_is_missing_until_it_is_dropped(restored: Restored) -> None:
-    """The desk goes back to half of the second part, and gets the rest later."""
-    database, line, second = restored.database, restored.line, restored.sent[1]
-    restored.go_back()
-    restored.go_on(restored.other(), *second[: len(second) // 2], status=4)
-    restored.refuse(f"the desk as of {OLDER} gave way")
-    assert f"desk of {OLDER}" in missing(database)
-    expect_whole(database, 3)
+def test_files_that_do_not_continue_what_is_loaded_are_refused(
+    restored: tuple[WorkedLine, list[bytes]], database: Database
+) -> None:
+    """Also with as many rows, as of a trial on another machine."""
+    line, again = restored
     before = pieces(database)
-    database.refuse("which is loaded, and lacks", line.kept()[1])
+    line.post(again)
+    mirror = line.copy()
+    for file in (mirror / "lost").iterdir():
+        file.unlink()
+    database.refuse("older than those that are loaded, or of another desk", mirror)
     assert pieces(database) == before
-    line.post(second[len(second) // 2 :])
-    line.copy()
-    restored.load()
-    database.drop(line="R1", name=f"desk of {OLDER}")
-    assert missing(database) == []
+    expect_whole(database, 3)
+
+
+def test_what_a_restore_took_off_is_named_until_it_was_sent_again(
+    restored: tuple[WorkedLine, list[bytes]], database: Database
+) -> None:
+    line, again = restored
+    ((lot,),) = database.rows("SELECT min(lot) FROM reel")
+    database.load(line.copy(4))
+    expect_whole(database, 3)
+    assert "have that sender send them again" in database.query("recall", 3, lot=lot).said
+    line.post(again)
+    database.load(line.copy())
     expect_whole(database)
 
 
@@ -115,7 +85,7 @@ def test_a_file_that_gave_way_is_missing_until_it_is_dropped(restored: Restored)
 
 
 class Doubted:
-    """The line D1, whose reel K1 is on slot 1 of machine M. The tables have its copies."""
+    """The line D1, whose reel K1 is on slot 1 of machine M. The tables have its files."""
 
     def __init__(self, line: WorkedLine, database: Database) -> None:
         self.line, self.database, self.said = line, database, 0
@@ -129,8 +99,7 @@ class Doubted:
         return self.message(minute, word, Machine="M", **body)
 
     def load(self) -> None:
-        self.line.copy()
-        self.database.load(self.line.kept()[-1])
+        self.database.load(self.line.copy())
 
     def put(self, record: tuple[str, bytes]) -> str:
         """Puts a record into the line's inbox; its id."""
@@ -138,14 +107,12 @@ class Doubted:
         (self.line.folder / f"untraced/{name}.json").write_bytes(text)
         return str(untraced.record_of(text).id)
 
-    def doubtful(self, kind: str, name: str, status: int) -> list[str]:
-        """The designators that a recall of the line names as doubtful."""
+    def expect_as_recalled(self, kind: str, name: str) -> None:
+        """The designators that a recall of the line names as doubtful are those of the tables."""
         words: list[Word] = [kind, name, *self.line.recall_words(), "--show", "doubtful"]
-        return [row["designator"] for row in recalled(*words, status=status)]
-
-    def by_plant(self, shape: str, kind: str, name: str) -> list[str]:
-        """Those of a query of the tables, which ends with status 3."""
-        return re.findall(shape, self.database.query("pieces", 3, **{kind: name}).said)
+        wanted = sorted(row["designator"] for row in recalled(*words, status=5))
+        said = self.database.query("pieces", 3, **{kind: name}).said
+        assert sorted(re.findall(SAYS, said)) == wanted and wanted
 
 
 @pytest.fixture
@@ -171,34 +138,63 @@ def doubted(program: pathlib.Path, folder: pathlib.Path, database: Database) -> 
     line.end()
 
 
-@pytest.mark.parametrize(
-    ("kind", "name"), [("lot", "L1"), ("lot", "L2"), ("reel", "K2"), ("board", "B1")]
-)
-def test_doubtful_pieces_are_those_of_a_recall(doubted: Doubted, kind: str, name: str) -> None:
-    assert doubted.by_plant(SAYS, kind, name) == doubted.doubtful(kind, name, 5)
+NAMES = [("lot", "L1"), ("lot", "L2"), ("reel", "K2"), ("board", "B1")]
 
 
-def test_doubtful_pieces_have_the_other_reel(doubted: Doubted) -> None:
-    query = "SELECT designator, reel, other_reels, other_lots FROM doubtful ORDER BY 1"
-    wanted = [(name, "K1", "{K2}", "{L2}") for name in ("R1", "R2")]
-    wanted.append(("R3", "K2", "{K1}", "{L1}"))
-    assert doubted.database.rows(query) == wanted
+def test_doubtful_pieces_are_those_of_a_recall(doubted: Doubted) -> None:
+    for kind, name in NAMES:
+        doubted.expect_as_recalled(kind, name)
+
+
+def test_a_refused_reel_that_the_desk_does_not_know_makes_pieces_doubtful(
+    doubted: Doubted,
+) -> None:
+    load = doubted.on_machine(22, "MaterialsLoaded", Slot="1", Reel="X9")
+    doubted.put(refused(load, "UnknownReel", "1970-01-01T00:22:00Z"))
+    doubted.line.accept(
+        doubted.on_machine(23, "MaterialsInstalled", Board="B1", Designators=["R4"])
+    )
+    doubted.load()
+    for kind, name in (*NAMES, ("lot", "nowhere"), ("reel", "X9"), ("reel", "X8")):
+        doubted.expect_as_recalled(kind, name)
+
+
+def test_a_record_of_anybodys_words_is_loaded(doubted: Doubted) -> None:
+    """PostgreSQL has no U+0000 and no half letter."""
+    load = doubted.on_machine(22, "MaterialsLoaded", Slot="1", Reel="X\0\ud800")
+    doubted.put(refused(load, "UnknownReel", "1970-01-01T00:22:00Z"))
+    more = doubted.on_machine(23, "MaterialsInstalled", Board="B1", Designators=["R4"])
+    doubted.line.accept(more)
+    doubted.load()
+    assert r"K2 or X\0\ud800 of lot" in doubted.database.query("pieces", 3, board="B1").said
 
 
 def test_untraced_work_is_named_until_it_is_decided(doubted: Doubted) -> None:
-    """An older copy takes nothing back."""
+    """And no older folder takes anything back."""
     database, line = doubted.database, doubted.line
+    without = line.kept()[-1]
     record = doubted.put(a_record(1))
     doubted.load()
+    undecided = line.kept()[-1]
+    database.refuse("it lacks 1 records of untraced work", without)
     assert record in database.query("pieces", 3, lot="L1").said
     collecting.decide(line.archive, record, "A. Person", "scrapped", "as seen")
     doubted.load()
-    said = database.query("pieces", 3, lot="L1").said
-    assert record not in said and "in the table plant.untraced: 1" in said
-    for copy in (line.kept()[-1], line.kept()[1]):
-        database.load(copy)
-        query = "SELECT became, decided_by, reason FROM untraced"
-        assert database.rows(query) == [("scrapped", "A. Person", "as seen")]
+    assert record not in database.query("pieces", 3, lot="L1").said
+    database.refuse("it lacks 1 records of untraced work", undecided)
+    assert "the newest folder" in database.query("pieces", 3, lot="L1").said
+
+
+def test_a_doubt_about_a_name_of_two_lots_is_of_each(monkeypatch: pytest.MonkeyPatch) -> None:
+    """Also if the machine named both reels, so that no part is in doubt."""
+    piece = DoubtfulPiece(
+        *("B1", "C1", "M", "1", 5, "K-1", "L1; L2", ("K-9",), ("L9",), "why", "", frozenset())
+    )
+    its = doubts.Doubts([], [piece], [], Tapes())
+    monkeypatch.setattr(doubts, "look", lambda *_: its)
+    found = lineage.Lineage([], [], [], [], [])
+    ((*_, lots),) = loading.said_of("L1", pathlib.Path("L1"), found)
+    assert {"L1", "L2", "L9"} <= {*lots}
 
 
 def test_a_board_that_is_kept_is_doubtful(doubted: Doubted) -> None:
@@ -207,26 +203,3 @@ def test_a_board_that_is_kept_is_doubtful(doubted: Doubted) -> None:
     doubted.load()
     said = doubted.database.query("pieces", 3, lot="L1").said
     assert re.search(r"piece of D1:  of board B1, .* may be of another one: worked", said)
-
-
-@pytest.mark.parametrize(
-    ("kind", "name", "status"),
-    [
-        ("lot", "L2", 5),
-        ("lot", "nowhere", 5),
-        ("reel", "X9", 5),
-        ("reel", "X8", 5),
-        ("board", "B1", 5),
-    ],
-)
-def test_a_refused_reel_that_the_desk_does_not_know_makes_pieces_doubtful(
-    doubted: Doubted, kind: str, name: str, status: int
-) -> None:
-    load = doubted.on_machine(22, "MaterialsLoaded", Slot="1", Reel="X9")
-    doubted.put(refused(load, "UnknownReel", "1970-01-01T00:22:00Z"))
-    doubted.line.accept(
-        doubted.on_machine(23, "MaterialsInstalled", Board="B1", Designators=["R4"])
-    )
-    doubted.load()
-    by_plant = doubted.by_plant(r"doubtful piece of D1: (\w+) of board", kind, name)
-    assert sorted(by_plant) == sorted(doubted.doubtful(kind, name, status))

@@ -15,10 +15,9 @@ from typing import Any, Iterator
 import pytest
 from lab import databases, messages
 from lab.databases import Database
-from lab.plants import WorkedLine
+from lab.plants import WorkedLine, as_recalled
 from lab.recalls import recalled
 from lab.tools import tool
-from lab.world import RUNNING
 from tracedesk_dev import postgres, shift, trial
 
 pytestmark = [pytest.mark.xdist_group("plant_page")]
@@ -127,4 +126,4 @@ def test_a_recall_prints_the_same_pieces(plant: Plant) -> None:
     words = [word for line in plant.lines for word in line.recall_words()]
     by_tool = recalled("lot", shift.RECALLED, *words, "--show", "pieces")
     rows = plant.database.query("pieces", lot=shift.RECALLED).rows
-    assert [row | ({"minute": ""} if row["file"] == RUNNING else {}) for row in rows] == by_tool
+    assert as_recalled(plant.lines, rows) == by_tool

@@ -5,7 +5,7 @@ from __future__ import annotations
 
 import collections
 import contextlib
-from concurrent.futures import ThreadPoolExecutor
+import pathlib
 from typing import Any, Iterator
 
 import pytest
@@ -13,29 +13,23 @@ from lab import databases
 from lab.databases import Database, Queried
 from lab.line import table
 from lab.tools import Word
-from lab.waits import wait_for
 
 pytestmark = [pytest.mark.xdist_group("plant_several")]
 
 NAMES = ("augsburg", "brno", "cork")
-NOW = """to_char(now() AT TIME ZONE 'UTC', 'YYYY-MM-DD"T"HH24MISS"Z"')"""
-# Two archives and the running desk of line L1. Each has 134 pieces of the lot: half of the boards
-# are of one plant, and each other one is in all of them.
-FILES = f"""INSERT INTO line VALUES ('L1');
-DO $$ BEGIN FOR it IN 1 .. 3 LOOP
-    INSERT INTO file VALUES (it, 'L1', CASE it WHEN 3 THEN 'running desk' ELSE 'archive-' || it END,
-        'sum', 1, it, 200, CASE it WHEN 3 THEN {NOW} ELSE '' END);
-    INSERT INTO reel VALUES (it, 'R' || it, 'P', 'LOT'), (it, 'S' || it, 'P', 'OTHER');
-    INSERT INTO state DEFAULT VALUES;
-    EXECUTE format('CREATE TABLE placement_%s PARTITION OF placement FOR VALUES IN (%s)', it, it);
-    INSERT INTO placement SELECT it,
-        CASE n % 2 WHEN 0 THEN 'shared-' || n ELSE format('%s-%s-%s', current_database(), it, n) END,
-        'C1', 'M', '1', CASE n % 3 WHEN 0 THEN 'S' ELSE 'R' END || it, false, n
-        FROM generate_series(1, 200) n;
-    INSERT INTO start SELECT file, minute, machine, board, minute FROM placement WHERE file = it;
-END LOOP; END $$"""
+# Three files of line L1. Each has 134 pieces of the lot: half of the boards are of one plant, and
+# each other one is in all of them.
+FILES = """INSERT INTO line VALUES ('L1');
+INSERT INTO file (line, name, sha256, place, begun, commands, entries, rows, pieces, until, sealed)
+    SELECT 'L1', 'file-' || it, it, it, '', 1, 0, '', 200, now(), now()
+    FROM generate_series(1, 3) it;
+INSERT INTO reel SELECT id, 'R' || id, 'P', 'LOT' FROM file;
+INSERT INTO reel SELECT id, 'S' || id, 'P', 'OTHER' FROM file;
+INSERT INTO placement SELECT id,
+    CASE n % 2 WHEN 0 THEN 'shared-' || n ELSE format('%s-%s-%s', current_database(), id, n) END,
+    'C1', 'M', '1', CASE n % 3 WHEN 0 THEN 'S' ELSE 'R' END || id, false, n
+    FROM file, generate_series(1, 200) n"""
 PIECES, BOARDS, SHARED = 134, 67, 67  # of the lot in a file: all of them, alone and shared
-WAITING = "SELECT count(*) FROM pg_locks WHERE NOT granted"
 
 
 class Several:
@@ -142,35 +136,17 @@ def test_boards_are_counted_over_all_plants(several: Several) -> None:
     assert len(rows) == 9 * BOARDS + SHARED
     pieces = collections.Counter(row["pieces"] for row in rows)
     assert pieces == {"1": 9 * BOARDS, "9": SHARED}
-    assert {row["lines"] for row in rows if row["pieces"] == "9"} == {"augsburg/L1 brno/L1 cork/L1"}
+    lines = {row["line"] for row in rows if row["pieces"] == "9"}
+    assert lines == {"augsburg/L1; brno/L1; cork/L1"}
 
 
 def test_the_plants_are_asked_side_by_side(several: Several) -> None:
-    query = "EXPLAIN SELECT FROM plant.asked WHERE kind = 'lot' AND wanted = 'LOT'"
+    query = "EXPLAIN SELECT FROM plant.piece WHERE lot = 'LOT'"
     assert several.database.told(query).count("Async Foreign Scan") == len(NAMES)
 
 
 def test_a_name_that_no_plant_knows(several: Several) -> None:
     assert "no file that is loaded knows the name" in several.ask(status=3, lot="NONE").said
-
-
-def test_a_newer_seal_takes_the_place_of_the_older_one(several: Several) -> None:
-    """As a load does it, in one transaction: until that is done, the answer is that of before."""
-    newer = (
-        "INSERT INTO file SELECT 4, line, 'newer', sha256, 1, 9, 300, taken FROM file"
-        " WHERE id = 3; DELETE FROM file WHERE id = 3;"
-        " UPDATE file SET name = 'running desk' WHERE id = 4;"
-        " CREATE TABLE placement_4 PARTITION OF placement FOR VALUES IN (4);"
-        " INSERT INTO reel VALUES (4, 'R4', 'P', 'LOT');"
-        " INSERT INTO placement SELECT 4, 'newer-' || n, 'C1', 'M', '1', 'R4', false, n"
-        " FROM generate_series(1, 300) n"
-    )
-    with session(several.plants["brno"], newer) as link:
-        several.expect_all()
-        link.execute("DROP TABLE placement_3")
-        link.commit()
-    several.all += 300 - PIECES
-    several.expect_all()
 
 
 # --- A role that only reads
@@ -182,13 +158,9 @@ def test_a_reader_asks(several: Several) -> None:
     assert table(done.out) == several.ask(board="shared-4").rows
 
 
-@pytest.mark.parametrize(
-    ("role", "table"), [("reader", "plant.expected"), ("plant", "plant_cork.states")]
-)
-def test_a_reader_changes_nothing(several: Several, role: str, table: str) -> None:
-    """Neither here nor, as each other role, at a plant."""
-    done = several.database.psql("-U", role, "-c", f"DELETE FROM {table}", status=1)
-    assert "permission denied" in done.err
+def test_a_reader_changes_nothing(several: Several) -> None:
+    words = ["-U", "reader", "-c", "DELETE FROM plant.expected"]
+    assert "permission denied" in several.database.psql(*words, status=1).err
 
 
 # --- Plants that aren't there
@@ -210,13 +182,18 @@ def test_a_plant_whose_tables_are_locked(several: Several) -> None:
     several.expect_all()
 
 
-def test_a_plant_that_ends_amid_its_answer_is_an_error(several: Several) -> None:
+def test_a_plant_that_ends_amid_its_answer_is_an_error(
+    several: Several, folder: pathlib.Path
+) -> None:
     cork = several.plants["cork"]
-    with session(cork, "LOCK TABLE placement_1"), ThreadPoolExecutor() as threads:
-        asking = threads.submit(several.ask, "pieces", 3)
-        wait_for("the plant is asked", lambda: asking.done() or cork.told(WAITING) == "1\n")
-        databases.stop(cork.server)
-        assert asking.result().rows == []
+    text = (databases.SQL / "pieces.sql").read_text()
+    end = f"\\! kill -QUIT $(head -n 1 {cork.server.data}/postmaster.pid)\n\\! sleep 1\n"
+    amid = text.replace("\\ir ", f"\\ir {databases.SQL}/").replace(
+        "SELECT board", end + "SELECT board"
+    )
+    (folder / "amid.sql").write_text(amid)
+    words: list[Word] = ["--csv", "-v", "lot=LOT", "-f", folder / "amid.sql"]
+    assert several.database.psql(*words, status=3).out == ""
     cork.server.start()
     several.expect_all()
 
@@ -245,9 +222,28 @@ def test_a_plant_without_the_views_is_not_added(several: Several) -> None:
     several.expect_all()
 
 
-def test_what_a_plant_lacks_is_named(several: Several) -> None:
-    several.plants["brno"].change("INSERT INTO lacking VALUES ('L1', 'archive-7', 'its checksum')")
+# --- What a plant lacks
+
+# what is changed, what takes it back, and what is said
+LACKS = {
+    "a folder": (
+        "UPDATE line SET refused = 'it is no chain'",
+        "UPDATE line SET refused = ''",
+        "brno: L1 was not loaded: it is no chain",
+    ),
+    "a piece in doubt": (
+        "INSERT INTO doubt VALUES ('L1', 'doubtful piece', 'B8', '{P}', '{R9, S1}', '{NEW}')",
+        "DELETE FROM doubt",
+        "brno: doubtful piece",
+    ),
+}
+
+
+@pytest.mark.parametrize("name", LACKS)
+def test_what_a_plant_lacks_is_named(several: Several, name: str) -> None:
+    change, back, said = LACKS[name]
+    several.plants["brno"].change(change)
     told = several.ask(status=3).said
-    several.plants["brno"].change("DELETE FROM lacking")
-    assert "brno: without L1 archive-7: its checksum" in told
+    several.plants["brno"].change(back)
+    assert said in told
     several.ask()

@@ -21,11 +21,6 @@ pytestmark = [pytest.mark.xdist_group("three_ways")]
 
 SEED, BOARDS = 7, 16
 SOME = [pytest.param(2, id="some"), pytest.param(12, id="more", marks=pytest.mark.whole)]
-# the parts of tables that a query reads
-READ = """BEGIN; SELECT FROM plant.pieces_of('{}', '{}');
-    SELECT DISTINCT relname FROM pg_locks JOIN pg_class ON oid = relation
-    WHERE pid = pg_backend_pid() AND relname ~ '^placement_\\d+$' ORDER BY 1; COMMIT"""
-HOLD = "SELECT DISTINCT format('placement_%s', file) FROM {} WHERE {} = '{}' ORDER BY 1"
 
 
 @pytest.fixture(scope="module")
@@ -52,13 +47,6 @@ def lines(program: pathlib.Path, room: pathlib.Path) -> Iterator[list[WorkedLine
     finally:
         for line in made:
             line.end()
-
-
-@pytest.fixture(scope="module")
-def server() -> Iterator[postgres.Server]:
-    databases.skip_without()
-    with databases.server() as made:
-        yield made
 
 
 @pytest.fixture(scope="module")
@@ -102,7 +90,7 @@ def expect_same(asking: Asking, database: Database, kind: str, name: str) -> Row
     """The pieces of a name, if all print the same, row by row."""
     columns = BOARD_TRACE if kind == "board" else TRACE
     by_tool = asking.tables(kind, name)["pieces"]
-    by_plant = database.query("pieces", **{kind: name}).rows
+    by_plant = plants.as_recalled(asking.lines, database.query("pieces", **{kind: name}).rows)
     by_report = sorted(
         (line, file, *row) for line, file, rows in asking.wanted(kind, name) for row in rows
     )
@@ -166,53 +154,29 @@ def test_two_plants_print_the_same(
 
 
 def test_boards_of_a_lot_are_the_same(asking: Asking, whole: Database, lot: str) -> None:
-    by_tool = [
-        (
-            row["board"],
-            row["line"].replace("; ", " "),
-            row["pieces"],
-            row["overdue"],
-            str(len(row["file"].split("; "))),
-        )
-        for row in asking.tables("lot", lot)["boards"]
+    by_tool = asking.tables("lot", lot)["boards"]
+    assert whole.query("recall", lot=lot).rows == [
+        {name: value for name, value in row.items() if name != "file"} for row in by_tool
     ]
-    columns = ("board", "lines", "pieces", "overdue", "files")
-    rows = whole.query("recall", lot=lot).rows
-    assert [tuple(row[its] for its in columns) for row in rows] == by_tool
-
-
-@pytest.mark.parametrize(("kind", "table"), [("lot", "reel"), ("reel", "reel"), ("board", "start")])
-def test_files_without_the_name_are_not_read(whole: Database, kind: str, table: str) -> None:
-    ((name,),) = whole.rows(f"SELECT min({kind}) FROM {table}")
-    holding = [part for (part,) in whole.rows(HOLD.format(table, kind, name))]
-    assert whole.told(READ.format(kind, name)).split() == holding
-    assert 0 < len(holding) < plants.parts(whole) == 6
 
 
 # --- Loading
 
 
 def test_what_is_loaded_again_changes_nothing(lines: list[WorkedLine], again: Database) -> None:
-    """Nor does an older copy."""
     before = plants.state(again)
-    said = again.load(*(line.kept()[-1] for line in lines))
-    assert "pieces" not in said
-    files = sum(len(line.named_files()) for line in lines)
-    assert said.count("loaded before") == files
-    older = again.load(lines[0].kept()[-2])
-    assert "running desk: loaded before: all of its commands are in the archive " in older
+    assert again.load(*(line.kept()[-1] for line in lines)) == ""
     assert plants.state(again) == before
 
 
-def test_copies_in_their_order_make_the_same_tables(
+def test_files_in_their_order_make_the_same_tables(
     lines: Sequence[WorkedLine], server: postgres.Server, whole: Database
 ) -> None:
-    """As in a plant: a desk takes the place of its older copy, and its archive that of both."""
+    """As in a plant: a newer seal takes the place of the one that it continues."""
     made = databases.create(server, "one_by_one")
     with contextlib.ExitStack() as kept:
         kept.callback(whole.psql, "-c", f"DROP DATABASE {made.name}")
         for line in lines:
             for copy in line.kept():
                 made.load(copy)
-        assert plants.parts(made) == 6
-        assert plants.pieces(made) == plants.pieces(whole)
+        assert plants.state(made) == plants.state(whole)

@@ -59,6 +59,11 @@ class Database:
     name: str
 
     @property
+    def seen(self) -> pathlib.Path:
+        """What a reader's last answers were as of."""
+        return self.server.folder / f"seen-{self.name}"
+
+    @property
     def environment(self) -> dict[str, str]:
         """By which psql and the tools find it."""
         return {
@@ -66,7 +71,7 @@ class Database:
             "PGDATABASE": self.name,
             "PGUSER": "plant",
             "PGCLIENTENCODING": "UTF8",
-            "TRACEDESK_SEEN": str(self.server.folder / f"seen-{self.name}"),
+            "TRACEDESK_SEEN": str(self.seen),
             "PLANT_PASSWORD": PASSWORD,
             "ROLE_PASSWORD": PASSWORD,
         }
@@ -102,10 +107,6 @@ class Database:
         its = {"host": plant.server.folder, "dbname": plant.name, "user": "recall"}
         self.psql(*variables(its), "-f", SQL / "add.sql")
 
-    def drop(self, **values: object) -> None:
-        """Takes files out, as docs/plant.md says."""
-        self.psql(*variables(values), "-f", SQL / "drop.sql")
-
     def load(self, *words: Word, status: int = 0, **environment: str) -> str:
         """Calls tracedesk-plant-load, and returns what it says."""
         env = {**self.environment, **environment}
@@ -122,7 +123,8 @@ def create(server: postgres.Server, name: str, schema: str = "schema", more: str
     """A new database, with the tables of the plant or none."""
     Database(server, "postgres").psql("-c", f"CREATE DATABASE {name} {more}")
     made = Database(server, name)
-    if schema:  # copies of tests have the names of other days
+    made.seen.unlink(missing_ok=True)
+    if schema:  # files of tests are of other days
         made.psql("-f", SQL / f"{schema}.sql")
         made.change("ALTER TABLE line ALTER oldest SET DEFAULT '100 years'")
     return made

@@ -7,20 +7,36 @@ import pathlib
 import shutil
 from typing import Sequence
 
+from lab import small
 from lab.databases import Database
 from lab.line import Line
+from lab.recalls import Asked
 from lab.world import RUNNING
 from tracedesk_ops import catalogue
 
 PIECES = "line, file, board, designator, part, lot, reel, machine, slot, overdue, at"
-PARTS = "SELECT count(*) FROM pg_class WHERE relkind = 'r' AND relname LIKE 'placement%'"
-TABLES = (
-    *("file", "lacking", "reel", "start", "command"),
-    *("placement", "untraced", "doubtful", "looked"),
-)
+TABLES = {
+    "line": "name, refused, records",
+    "file": "line, name, sha256, place, begun, commands, entries, rows, pieces, until, sealed",
+    "known": "line, lot, part, reel",
+    "doubt": "line, said, board, parts, reels, lots",
+    "piece": PIECES,
+}
+# of the parts of a line's work the boards, each with its reel
+WORK = [{"SN-1": "K-1", "SN-2": "K-2"}, {"SN-3": "K-1", "SN-4": "K-3"}, {"SN-5": "K-2"}]
 TWICE = "SELECT line, board, designator FROM piece GROUP BY 1, 2, 3 HAVING count(*) > 1"
 
 Rows = list[tuple[str, ...]]
+
+
+def parts_of_work() -> list[bytes]:
+    """The messages of each part of a line's work."""
+    parts = [
+        [message for name, reel in part.items() for message in small.board(reel, name)]
+        for part in WORK
+    ]
+    parts[0] = [*small.set_up(), *parts[0]]
+    return [b"\n".join(part) for part in parts]
 
 
 class WorkedLine(Line):
@@ -69,27 +85,22 @@ class WorkedLine(Line):
         return {**{file.name: file for file in self.archived}, RUNNING: self.last}
 
 
-def parts(database: Database) -> int:
-    """How many tables of pieces there are."""
-    return int(database.told(PARTS))
-
-
 def pieces(database: Database) -> Rows:
     return database.rows(f"SELECT {PIECES} FROM piece ORDER BY 1, 2, 3, 4")
 
 
-def files(database: Database) -> Rows:
-    return database.rows("SELECT line, name, sha256, pieces FROM file ORDER BY 1, 2")
-
-
-def missing(database: Database) -> list[str]:
-    return [name for (name,) in database.rows("SELECT name FROM missing ORDER BY 1")]
-
-
-def state(database: Database) -> list[str]:
+def state(database: Database) -> list[Rows]:
     """All rows of all tables, but for the ids of files."""
-    query = "SELECT it FROM plant.{0} it ORDER BY it::text"
-    return [database.told(query.format(name)) for name in TABLES]
+    return [
+        database.rows(f"SELECT {columns} FROM {name} ORDER BY ({columns})::text")
+        for name, columns in TABLES.items()
+    ]
+
+
+def as_recalled(lines: Sequence[Asked], rows: list[dict[str, str]]) -> list[dict[str, str]]:
+    """Rows of the tables, with the newest files named as a recall of running desks does it."""
+    newest = {line.last.name: RUNNING for line in lines}
+    return [row | {"file": newest.get(row["file"], row["file"])} for row in rows]
 
 
 def expect_whole(database: Database, status: int = 0) -> None:
