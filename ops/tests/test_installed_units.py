@@ -145,7 +145,7 @@ def test_tracedesk_recall_work(page: Machine, journal: Callable[[str], None]) ->
     name = f"{datetime.datetime(2020, 1, 1):%Y%m%dT%H%M%S.%fZ}-00000000"
     folder = f"/var/lib/tracedesk-recall/{name}"
     bad = {"kind": "lot", "names": ["L", "--program", "/x"], "part": 7, "reader": "x", "at": ""}
-    told = shlex.quote(json.dumps({**bad, "has_list": False}))
+    told = shlex.quote(json.dumps({**bad, "within": 0}))
     put = f"umask 007; mkdir {folder}; printf %s {told} > {folder}/asked.json"
     page.shell(f"runuser -u tracedesk-recall -- sh -c {shlex.quote(put)}")
     recalled(page, "L-77")

@@ -298,8 +298,14 @@ def test_a_queue_takes_no_more_than_it_can_work_off(site: Site) -> None:
     assert len(site.queue.waiting()) == jobs.MOST_WAITING
 
 
-def test_the_same_question_waits_once(site: Site) -> None:
-    assert site.asked("lot", "L-3", reader="anna") == site.asked("lot", "L-3", reader="ben")
+def test_a_question_of_an_older_page_is_run(site: Site) -> None:
+    at = site.asked("lot", "L-3")
+    file = site.queue.waiting()[0].folder / jobs.ASKED
+    told = {**json.loads(file.read_text()), "has_list": False}
+    del told["within"]
+    file.write_text(json.dumps(told))
+    site.worker().work(is_once=True)
+    assert "Complete: 1 board" in site.page(at)
 
 
 @pytest.mark.parametrize("begins", [jobs.NEW, ""])

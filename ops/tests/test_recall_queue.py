@@ -76,12 +76,10 @@ def test_a_recall_that_hangs_is_stopped_with_its_programs(queue: Queue) -> None:
         wait_for("its end", lambda: processes.has_ended(int(text)))
 
 
-def test_a_recall_that_runs_answers_no_later_question(queue: Queue) -> None:
+def test_no_question_is_answered_by_an_earlier_recall(queue: Queue) -> None:
     """It may have asked the desk before the boards were placed that the reader is after."""
-    first = queue.add(asked("L-1"))
-    with first.opened() as place:
-        place.new(jobs.SAID).close()
-    assert first.is_running and queue.add(asked("L-1")) != first
+    assert queue.add(asked("L-1")) != queue.add(asked("L-1"))
+    assert len(queue.waiting()) == 2
 
 
 def test_a_recall_that_cannot_be_ended_holds_none_up(

@@ -1,24 +1,15 @@
 """The pages of recalls, for readers whom the proxy has logged in."""
 from __future__ import annotations
 
-import argparse
 import datetime
 import pathlib
 
 import flask
 from werkzeug.exceptions import HTTPException
 
-from tracedesk_ops import options
 from tracedesk_ops.recallpage import pages, papers, view
-from tracedesk_ops.recallpage.jobs import (
-    KINDS,
-    MOST_BYTES,
-    MOST_SHOWN,
-    JobQuestion,
-    Full,
-    Job,
-    Queue,
-)
+from tracedesk_ops.recallpage.jobs import MOST_BYTES, MOST_SHOWN, JobQuestion, Full, Job, Queue
+from tracedesk_ops.recallpage.jobs import question_of
 from tracedesk_ops.recalls import sets
 
 READER = "X-Reader"  # the header in which the proxy names the reader
@@ -40,7 +31,6 @@ STATES = {
     3: "NOT COMPLETE",
     5: "complete, with doubtful pieces",
 }
-MOST_NAMES = 50
 SECONDS_UNTIL_AGAIN = 3
 POLICY = "default-src 'none'; " + "; ".join(
     (
@@ -52,37 +42,18 @@ POLICY = "default-src 'none'; " + "; ".join(
 )
 
 
-class NoQuestion(Exception):
-    """Why a question isn't taken."""
-
-
-def asked_in(form: "dict[str, str]", reader: str, has_list: bool) -> JobQuestion:
-    """The question in a form; a NoQuestion says what is wrong with it."""
+def asked_in(form: "dict[str, str]", reader: str) -> JobQuestion:
+    """The question in a form; a ValueError says what is wrong with it."""
     kind, part = form.get("kind", ""), form.get("part", "").strip()
-    names = tuple(name.strip() for name in form.get("names", "").split(",") if name.strip())
-    if kind not in KINDS:
-        raise NoQuestion("Say what is recalled.")
-    if not names or kind == "board" and len(names) > 1 or len(names) > MOST_NAMES:
-        raise NoQuestion("Give one name." if kind == "board" else f"Give 1 to {MOST_NAMES} names.")
-    try:
-        for text in (*names, *([part] if part else [])):
-            options.identifier(text)
-        if kind == "where":
-            sets.terms_of(names)
-    except (argparse.ArgumentTypeError, ValueError) as fault:
-        raise NoQuestion(f"{str(fault)[:1].upper()}{str(fault)[1:]}.") from fault
-    if begun := [name for name in (*names, part) if name.startswith("-")]:
-        raise NoQuestion(f"{begun[0]} begins with -: ask for it by tracedesk-recall.")
+    names = [name.strip() for name in form.get("names", "").split(",") if name.strip()]
     if part and kind == "where":
-        names, part = (*names, f"part={part}"), ""
-    if part and kind != "lot":
-        raise NoQuestion("A part may be named with a lot or an attribute.")
+        names, part = [*names, f"part={part}"], ""
     within = form.get("within", "").strip() or "0"
     if not (within.isascii() and within.isdecimal() and len(within) < 6):
-        raise NoQuestion("By how many pieces a label may be wrong is a number below 100,000.")
-    now = datetime.datetime.now(datetime.timezone.utc)
-    at = f"{now:%Y-%m-%d %H:%M} UTC"
-    return JobQuestion(kind, names, part, reader, at, has_list, int(within))
+        raise ValueError("by how many pieces a label may be wrong is a number below 100,000")
+    at = f"{datetime.datetime.now(datetime.timezone.utc):%Y-%m-%d %H:%M} UTC"
+    its = {"kind": kind, "names": names, "part": part, "reader": reader, "at": at}
+    return question_of(**its, within=int(within))
 
 
 def title_of(asked: JobQuestion) -> str:
@@ -140,9 +111,9 @@ class Site:
         upload = flask.request.files.get("shipped")
         shipped = upload.read() if upload else b""
         try:
-            job = self.queue.add(asked_in(values, who, bool(shipped)), shipped)
-        except NoQuestion as fault:
-            return self.form(str(fault), 400, values)
+            job = self.queue.add(asked_in(values, who), shipped)
+        except ValueError as fault:
+            return self.form(f"{str(fault)[:1].upper()}{str(fault)[1:]}.", 400, values)
         except Full as fault:
             return self.form(str(fault), 429, values)
         return flask.redirect(f"/recall/{job.name}/", 303)
@@ -165,9 +136,9 @@ class Site:
         return pages.page(pages.JOB, title, its)
 
     def waiting(self, job: Job, title: str) -> str:
-        before = self.queue.place(job)
-        state = "The archives are being read." if job.is_running else f"{waits(before)}."
-        return pages.page(pages.WAIT, title, {"state": state}, SECONDS_UNTIL_AGAIN)
+        waiting = f"{waits(self.queue.place(job))}."
+        its = {"state": "The archives are being read." if job.is_running else waiting}
+        return pages.page(pages.WAIT, title, its, SECONDS_UNTIL_AGAIN)
 
     def download(self, name: str, file: str) -> flask.Response:
         job = self.job_of(name)

@@ -37,6 +37,7 @@ NEW = ".new-"  # the beginning of the name of a folder that is not whole yet
 MOST_WAITING = 50
 MOST_OF_ONE = 10  # that wait for one reader
 MOST_SHOWN = 50
+MOST_NAMES = 50
 KINDS = ("lot", "board", "reel", "where")
 
 
@@ -55,7 +56,6 @@ class JobQuestion:
     part: str
     reader: str
     at: str
-    has_list: bool = False
     within: int = 0
 
     def words(self, options: Sequence[str] = ()) -> list[str]:
@@ -64,29 +64,40 @@ class JobQuestion:
         within = [f"--within={self.within}"] if self.within else []
         return [self.kind, *part, *within, *options, "--", *self.names]
 
-    def same(self, other: "JobQuestion") -> bool:
-        return self.words() == other.words() and not (self.has_list or other.has_list)
+
+def question_of(names: Iterable[str], **told: Any) -> JobQuestion:
+    """The question of these fields, whoever gave them; a ValueError says what is wrong with it."""
+    its = JobQuestion(names=tuple(names), **told)
+    if its.kind not in KINDS:
+        raise ValueError("say what is recalled")
+    most = 1 if its.kind == "board" else MOST_NAMES
+    if not 1 <= len(its.names) <= most:
+        raise ValueError("give one name" if most == 1 else f"give 1 to {most} names")
+    try:
+        for name in (*its.names, *([its.part] if its.part else [])):
+            options.identifier(name)
+            if name.startswith("-"):
+                raise ValueError(f"{name} begins with -: ask for it by tracedesk-recall")
+    except argparse.ArgumentTypeError as fault:
+        raise ValueError(str(fault)) from fault
+    if its.kind == "where":
+        sets.terms_of(its.names)
+    if its.part and its.kind != "lot":
+        raise ValueError("a part may be named with a lot or an attribute")
+    return its
 
 
 def asked_in(text: bytes) -> JobQuestion:
-    """The question of a file; a ValueError if it is none."""
-    told: Any = json.loads(records.shallow(text))
-    told = {"within": 0, **told} if isinstance(told, dict) else {}
-    names = told["names"] if set(told) == FIELDS else None
-    if not (isinstance(names, list) and names and told["kind"] in KINDS):
+    """The question of a file; a ValueError if it is none. An older page's has a field more."""
+    read: Any = json.loads(records.shallow(text))
+    told = {"within": 0, **read} if isinstance(read, dict) else {}
+    told = {name: told[name] for name in FIELDS if name in told}
+    if len(told) < len(FIELDS) or not isinstance(told["names"], list):
         raise ValueError("it is no question of the page")
-    texts = [told[name] for name in ("part", "reader", "at")]
-    if not all(isinstance(it, str) for it in (*names, *texts)) or type(told["within"]) is not int:
+    texts = (*told["names"], *(told[name] for name in ("kind", "part", "reader", "at")))
+    if not all(isinstance(its, str) for its in texts) or type(told["within"]) is not int:
         raise ValueError("a name is no text, or a number is none")
-    for name in (*names, *([told["part"]] if told["part"] else [])):
-        try:
-            options.identifier(name)
-        except argparse.ArgumentTypeError as fault:
-            raise ValueError(str(fault)) from fault
-    if told["kind"] == "where":
-        sets.terms_of(names)
-    its: dict[str, Any] = {**told, "names": tuple(names), "has_list": bool(told["has_list"])}
-    return JobQuestion(**its)
+    return question_of(**told)
 
 
 FIELDS = {field.name for field in dataclasses.fields(JobQuestion)}
@@ -225,17 +236,11 @@ class Queue:
         return sum(1 for other in self.waiting() if other.name < job.name)
 
     def add(self, asked: JobQuestion, shipped: bytes = b"") -> Job:
-        """Puts a recall into the queue, whole or not at all. If the same one waits already, that is
-        taken in its place; one that runs may have asked the desk before this moment.
-        """
+        """Puts a recall into the queue, whole or not at all."""
         waiting = self.waiting()
-        questions = list(self.questions(waiting))
-        for job, other in questions:
-            if other.same(asked) and not job.is_running:
-                return job
         if len(waiting) >= MOST_WAITING:
             raise Full(f"{len(waiting)} recalls wait already. Come again later.")
-        own = sum(1 for _, other in questions if other.reader == asked.reader)
+        own = sum(other.reader == asked.reader for _, other in self.questions(waiting))
         if own >= MOST_OF_ONE:
             raise Full(f"{own} recalls of yours wait already. Come again once they are done.")
         now = datetime.datetime.now(datetime.timezone.utc)

@@ -1,62 +1,51 @@
 """The pages of recalls as texts. What comes from elsewhere is always escaped."""
 from __future__ import annotations
 
-import re
 from collections.abc import Mapping
 
 import jinja2
 
 from tracedesk_ops.recallpage.view import ShownAnswer
 
-COLOURS = {
-    "ink": "#1b2430",
-    "grey": "#55606e",
-    "line": "#c6ccd4",
-    "blue": "#0b57a4",
-    "green": "#1b7a3d",
-    "red": "#b71c1c",
-}
-BY_NAME = """
+CSS = """
 :root { color-scheme: light }
 * { box-sizing: border-box }
 body {
-  font: 17px/1.45 "DejaVu Sans", Verdana, sans-serif; color: var(--ink);
+  font: 17px/1.45 "DejaVu Sans", Verdana, sans-serif; color: #1b2430;
   margin: 0 auto; padding: 1.2rem 2rem 3rem; max-width: 1500px;
 }
-a { color: var(--blue) }
+a { color: #0b57a4 }
 h1 { font-size: 1.5rem; margin: .2rem 0 .6rem }
 h2 { font-size: 1.15rem; margin: 1.6rem 0 .4rem }
 p { margin: .4rem 0 }
 ul { margin: .3rem 0 .3rem 1.2rem; padding: 0 }
-.answer, .wait { border: 4px solid var(--green); padding: .7rem 1rem; margin: .6rem 0 1rem }
+.answer, .wait { border: 4px solid #1b7a3d; padding: .7rem 1rem; margin: .6rem 0 1rem }
 .answer { font-size: 1.5rem; font-weight: bold }
-.answer.missing { border-color: var(--red); color: var(--red) }
-.wait { border-color: var(--grey); font-size: 1.3rem }
-.why { border-left: 6px solid var(--red); padding: .2rem 1rem; margin: 0 0 1rem }
+.answer.missing { border-color: #b71c1c; color: #b71c1c }
+.wait { border-color: #55606e; font-size: 1.3rem }
+.why { border-left: 6px solid #b71c1c; padding: .2rem 1rem; margin: 0 0 1rem }
 .downloads a {
-  display: inline-block; border: 2px solid var(--blue); border-radius: 4px;
+  display: inline-block; border: 2px solid #0b57a4; border-radius: 4px;
   padding: .35rem .9rem; margin: .2rem .5rem .2rem 0; text-decoration: none; font-weight: bold;
 }
 table { border-collapse: collapse; width: 100% }
 thead { display: table-header-group }
 tr { break-inside: avoid }
 th, td {
-  text-align: left; padding: .22rem .6rem; border-bottom: 1px solid var(--line);
+  text-align: left; padding: .22rem .6rem; border-bottom: 1px solid #c6ccd4;
   overflow-wrap: anywhere; vertical-align: top;
 }
-th { color: var(--grey); font-weight: normal; overflow-wrap: normal }
-.grey { color: var(--grey); font-size: .9rem }
-fieldset { border: 1px solid var(--line); margin: 0 0 1rem; padding: .6rem 1rem }
+th { color: #55606e; font-weight: normal; overflow-wrap: normal }
+.grey { color: #55606e; font-size: .9rem }
+fieldset { border: 1px solid #c6ccd4; margin: 0 0 1rem; padding: .6rem 1rem }
 label { display: block; margin: .5rem 0 .1rem }
 input[type=text], select { font: inherit; padding: .3rem .5rem; width: 100%; max-width: 34rem }
 button {
   font: inherit; font-weight: bold; padding: .45rem 1.4rem; margin-top: .8rem;
-  color: #fff; background: var(--blue); border: 0; border-radius: 4px;
+  color: #fff; background: #0b57a4; border: 0; border-radius: 4px;
 }
-.refused { color: var(--red); font-weight: bold }
+.refused { color: #b71c1c; font-weight: bold }
 """
-# WeasyPrint knows no var(--NAME) in the short form of a border.
-CSS = re.sub(r"var\(--(\w+)\)", lambda found: COLOURS[found[1]], BY_NAME)
 PAPER = """
 @page {
   size: A4; margin: 14mm 12mm 16mm;

@@ -100,8 +100,7 @@ def title_of(question: dict[str, str]) -> str:
     return name if question["kind"] == "reels" else f"{question['kind']} {name}{part}"
 
 
-def table_of(evidence: pathlib.Path, name: str, title: str) -> Table:
-    rows = rows_in(evidence, name)
+def table_of(rows: list[dict[str, str]], name: str, title: str) -> Table:
     columns = [its for its in (rows[0] if rows else ()) if its not in LEFT_OUT.get(name, ())]
     found = [[spelled(row[its]) for its in columns] for row in rows[:MOST_ROWS]]
     return Table(title, [title_for(its) for its in columns], found, max(0, len(rows) - MOST_ROWS))
@@ -111,23 +110,18 @@ def title_for(column: str) -> str:
     return TITLES.get(column, column.replace("_", " ").capitalize())
 
 
-def by_customer(evidence: pathlib.Path) -> list[Table]:
+def boards_of(evidence: pathlib.Path) -> list[Table]:
     """The boards, a table for each customer; the rest comes first, since it may still be here."""
     rows = rows_in(evidence, "boards")
     if not rows or "customer" not in rows[0]:
-        return [table_of(evidence, "boards", f"Boards: {len(rows):,}")]
+        return [table_of(rows, "boards", f"Boards: {len(rows):,}")]
     groups: dict[str, list[dict[str, str]]] = {}
     for row in rows:
-        groups.setdefault(row["customer"], []).append(row)
-    columns = [its for its in rows[0] if its not in ("file", "customer")]
-    tables = []
-    for customer in sorted(groups):
-        own = groups[customer]
-        found = [[spelled(row[its]) for its in columns] for row in own[:MOST_ROWS]]
-        title = f"{customer or NOT_SHIPPED}: {count(len(own), 'board')}"
-        header = [title_for(its) for its in columns]
-        tables.append(Table(title, header, found, max(0, len(own) - MOST_ROWS)))
-    return tables
+        groups.setdefault(row.pop("customer"), []).append(row)
+    return [
+        table_of(own, "boards", f"{customer or NOT_SHIPPED}: {count(len(own), 'board')}")
+        for customer, own in sorted(groups.items())
+    ]
 
 
 def headline_of(told: dict[str, Any], title: str) -> str:
@@ -168,8 +162,8 @@ def answer_of(evidence: pathlib.Path) -> ShownAnswer:
     title = title_of(told["question"])
     more = [("reels", "Reels in stock and on slots"), ("doubtful", "Doubtful pieces")]
     more += [("untraced", "Untraced work"), ("pieces", "Pieces")]
-    its = ((name, text, told["answer"][name]) for name, text in more)
-    tables = [table_of(evidence, name, f"{text}: {rows:,}") for name, text, rows in its if rows]
+    its = ((name, text, rows_in(evidence, name)) for name, text in more)
+    tables = [table_of(rows, name, f"{text}: {len(rows):,}") for name, text, rows in its if rows]
     lines = ", ".join(line["line"] for line in told["lines"])
     facts = [("Asked", spelled(told["asked_at"])), ("Lines", lines)]
     facts.append(("Programs", ", ".join(its["version"] for its in told["programs"][:2])))
@@ -180,7 +174,7 @@ def answer_of(evidence: pathlib.Path) -> ShownAnswer:
         headline=headline_of(told, title),
         reasons=reasons_of(told),
         notes=[readable(note) for note in told["notes"]],
-        tables=[*by_customer(evidence), *tables],
+        tables=[*boards_of(evidence), *tables],
         facts=facts,
         limits=told["cannot_know"],
     )
