@@ -7,12 +7,15 @@ from collections.abc import Iterable
 from typing import Any
 
 from tracedesk_ops import catalogue, copies, sealed
-from tracedesk_ops.recalls import tables, wording
+from tracedesk_ops.recalls import tables
 from tracedesk_ops.recalls.recall import Recall
 from tracedesk_ops.recalls.tables import Shipped, Table
 
 HEADER = ("board", "customer", "date", "holds", "pieces", "first_minute", "last_minute")
 YES, NO, PERHAPS, NOT_KNOWN = "yes", "no", "perhaps", "not known"
+# columns of untraced work with names of senders and people, and anybody's words
+HIDDEN = ("place", "source", "decided_by", "reason")
+SAID_TO_THE_PLANT = "the plant's own evidence of this recall says why"
 KNOWN = "SELECT 1 FROM board WHERE board = ?"
 
 
@@ -41,29 +44,30 @@ def narrow(recall: Recall, shipped: Shipped, customer: str) -> dict[str, Table]:
     incomplete one nobody knows that a serial holds none.
     """
     serials = serials_of(shipped, customer)
-    holding = {piece.board for piece in recall.pieces}
+    # what is on a board that nobody named may be on each
     doubtful = {row[1] for row in recall.doubtful} | {row[3] for row in recall.undecided()}
-    nowhere = unknown(recall, serials.keys() - holding)
-    without = NOT_KNOWN if recall.faults or recall.breaks or recall.doubts else NO
-    if nowhere:
+    if nowhere := unknown(recall, serials.keys() - {piece.board for piece in recall.pieces}):
         named = ", ".join(sorted(nowhere)[:20])
         recall.faults.append(
             f"{len(nowhere)} serials of {customer} are known to none of these lines: {named}."
             " Look at how they are spelled, and ask the lines that made them"
         )
+    without = NOT_KNOWN if recall.status() == 3 else NO
     rows: Table = [HEADER]
     by_board = {row[0]: row for row in tables.boards_table(recall, None)[1:]}
     for serial, date in serials.items():
         its = by_board.get(serial)
-        holds = PERHAPS if serial in doubtful else NOT_KNOWN if serial in nowhere else without
+        holds = PERHAPS if doubtful & {serial, ""} else without
         placed = its[1:4] if its else [0, "", ""]
         rows.append([serial, customer, date, YES if its else holds, *placed])
     whole = tables.tables_of(recall, None)
     places = {"pieces": 0, "doubtful": 1, "untraced": 3}  # of the column that has the board
     own = {
-        name: [whole[name][0], *(row for row in whole[name][1:] if row[at] in serials)]
+        name: [whole[name][0], *(row for row in whole[name][1:] if row[at] in {*serials, ""})]
         for name, at in places.items()
     }
+    left = [at for at, name in enumerate(own["untraced"][0]) if name not in HIDDEN]
+    own["untraced"] = [[row[at] for at in left] for row in own["untraced"]]
     return {"serials": rows, **own}
 
 
@@ -82,15 +86,14 @@ def sentence(serials: Table) -> str:
 
 
 def hide(told: dict[str, Any], serials: Table) -> None:
-    """Takes out of a certificate what others have in the files of the lines: it has the checksums
-    of those alone.
+    """Takes out of a certificate what a customer may not see: folders, senders and people of the
+    plant, and boards of others, as where two files differ. It has the checksums of the files alone.
     """
     told["customer"] = sentence(serials)
-    for name in ("not_asked", "no_chain", "notes"):
-        told[name] = [wording.readable(text) for text in told[name]]
-    if told["twice"]:
-        told["twice"] = ["pieces are there twice in these lines' files"]
+    told["notes"] = []
+    for name in ("not_asked", "no_chain", "twice"):
+        told[name] = told[name] and [SAID_TO_THE_PLANT]
     for line in told["lines"]:
         line["folder"] = None
         for archive in line["archives"]:
-            archive["why"] = wording.readable(archive["why"])
+            archive["why"] = archive["why"] and SAID_TO_THE_PLANT
