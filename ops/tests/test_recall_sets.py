@@ -113,6 +113,17 @@ def test_without_a_book_no_attribute_is_known(line: Line) -> None:
     recall(line, "where", "date_code=2614", "part=CAP").expect(3, "K-1, K-3, K-4")
 
 
+@pytest.mark.parametrize("words", ["reel K-1", "lot L-77 L-78", "where lot=L-77"])
+def test_a_file_whose_reels_are_not_known_is_named(
+    monkeypatch: pytest.MonkeyPatch, words: str
+) -> None:
+    known = sets.Known([])
+    known.faults.append("L1: the reels of desk aren't known")
+    monkeypatch.setattr(sets, "Known", lambda _: known)
+    kind, *names = words.split()
+    assert known.faults[0] in sets.question_of(kind, names, "", []).faults
+
+
 @pytest.mark.parametrize(
     ("kind", "names"), [("lot", ["L-77", "L-78"]), ("where", ["lot=L-77"])], ids=["lots", "where"]
 )

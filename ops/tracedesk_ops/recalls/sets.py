@@ -166,7 +166,8 @@ def question_of(kind: str, names: Sequence[str], part: str, lines: Sequence[Line
         more = [name for name in reels if name not in names]
         notes = [f"followed under other names too: {', '.join(more)}"] if more else []
         its = Question("reels", title(kind, reels, ""), "", tuple(reels))
-        return Meant(its if len(reels) > 1 else Question(kind, names[0]), [], notes, known)
+        its = its if len(reels) > 1 else Question(kind, names[0])
+        return Meant(its, known.faults, notes, known)
     if kind == "lot":
         cards = [card for those in known.cards.values() for card in those]
         of_lots = {its.reel for its in cards if its.lot in names and part in ("", its.part)}
