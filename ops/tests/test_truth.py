@@ -2,7 +2,8 @@
 
 At the end of a batch, of each lot: every board that holds a piece of it is listed by
 tracedesk-recall, or named as untraced or doubtful with a status that is not 0; and no piece is
-listed that isn't of the lot, unless it is named so too. A machine that obeys the interlock places
+listed that isn't of the lot, unless it is named so too. Some labels lie by one piece, and recalls
+are asked with `--within 1`. A machine that obeys the interlock places
 nothing while the desk refuses, or a scan of a slot was refused and nothing accepted of it since.
 Reels are changed without a scan too: where the machine names its reels, a recall of either lot
 names each board.
@@ -49,6 +50,11 @@ def test_recalls_say_what_happened(program: pathlib.Path, room: pathlib.Path, se
 def test_planted_fault_is_found(program: pathlib.Path, room: pathlib.Path, seed: int) -> None:
     """Refused reports of work are sent again unchanged."""
     assert faults_of(Batch(program, room, seed, 0, runs=10, planted=True))
+
+
+def test_a_label_that_lies_is_found(program: pathlib.Path, room: pathlib.Path, seed: int) -> None:
+    """If recalls are not told by how many pieces labels may be wrong."""
+    assert faults_of(Batch(program, room, seed, 0, runs=RUNS_PLANTED, within=0))
 
 
 def mends_all(states: interlock.Interlock, it: machine.Machine, *_: object) -> None:

@@ -62,7 +62,7 @@ def expect_done(done: Ended) -> None:
 class Batch:
     """Runs that share one desk; `faults` are those of all of them, and `counts` say how much was
     tried. With `planted`, refused reports of work are sent again unchanged, which a comparison has
-    to find."""
+    to find. Labels lie by one piece: `within` is what recalls are told of that."""
 
     def __init__(
         self,
@@ -72,7 +72,9 @@ class Batch:
         number: int,
         runs: int,
         planted: bool = False,
+        within: int = 1,
     ) -> None:
+        self.within = within
         self.random = random.Random(seed * 1_000_003 + number)
         self.faults: list[str] = []
         self.counts: "collections.Counter[str]" = collections.Counter()
@@ -173,7 +175,7 @@ class Batch:
         """Asks for each lot of each run. The desk stands still by now, so what is the same for all
         of them is looked at once."""
         self.line = Line(LINE, self.place.folder)
-        looked = LookedOnce()
+        looked = LookedOnce(self.within)
         with contextlib.ExitStack() as held:
             self.room = pathlib.Path(held.enter_context(files.Room()))
             reels = "".join(f"{reel}\n" for run in self.runs for reel in run.reels)
@@ -201,7 +203,7 @@ class Batch:
 
     def answer_of(self, lot: str) -> Any:
         """What tracedesk-recall says of a lot, in this process."""
-        question = Question("lot", lot)
+        question = Question("lot", lot, within=self.within)
         self.chain.lot = lot
         with files.Room() as room:
             told = Recall(question, [self.line], self.chain, pathlib.Path(room))
@@ -223,6 +225,7 @@ class Batch:
         lot = min(lot for lot, _ in run.reels.values())
         told, folder = self.answer_of(lot), self.place.folder / "evidence"
         words = [*self.place.recall_words(), "--evidence", folder]
+        words += ["--within", self.within] if self.within else []
         done = run_tool("recall", "lot", lot, *words)
         tables = {
             name: list(csv.DictReader((folder / f"{name}.csv").open(newline=""))) for name in TABLES
@@ -274,16 +277,17 @@ class Batch:
 
 
 class LookedOnce:
-    """What is around the line's files: it is looked at once, and each run is told what is of its
-    machine."""
+    """What is around the line's files: it is looked at once, for all reels, and each run is told
+    what is of its machine."""
 
-    def __init__(self) -> None:
+    def __init__(self, within: int) -> None:
         self.look, self.machine = doubts.look, ""
+        self.all = Question("board", "each", within=within)
         self.told: Any = None
 
-    def __call__(self, *words: Any) -> Any:
+    def __call__(self, folder: Any, archives: Any, *_: Any) -> Any:
         if self.told is None:
-            self.told = self.look(*words)
+            self.told = self.look(folder, archives, self.all)
             self.works = by_machine(
                 self.told.works, lambda work: untraced.body_of(work[0]).get("Machine")
             )

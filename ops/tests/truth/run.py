@@ -14,6 +14,7 @@ ROUNDS, SETTLE = 26, 3  # minutes of a run, and at its end those in which no ree
 SLOTS = {"1": ("C1", "C2", "C3"), "2": ("D1", "D2")}
 DESIGNATORS = {name: slot for slot, names in SLOTS.items() for name in names}
 MANY_LABELS = (10, 500, 500, 500)
+LIES = (-1, 0, 0, 0, 1)  # by how many pieces a label is wrong
 
 
 class Run:
@@ -82,7 +83,8 @@ class Run:
         self.reels[reel] = [lot, pieces]
         if self.random.random() >= 0.97:
             return []
-        body = {"Reel": reel, "PartNumber": part, "Lot": lot, "Level": "6", "Quantity": pieces}
+        label_says = pieces + self.random.choice(LIES)
+        body = {"Reel": reel, "PartNumber": part, "Lot": lot, "Level": "6", "Quantity": label_says}
         said = [self.message("ReelReceived", **body, LabelMinutes=label)]
         if self.random.random() < 0.97:
             said.append(self.message("ReelBaked", Reel=reel))
