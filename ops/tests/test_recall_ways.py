@@ -1,5 +1,5 @@
-"""The boards of questions over random chains, in three ways: by tracedesk-chain, by SQL over the
-files, and by the page of recalls.
+"""The boards of questions over random chains, in four ways: by tracedesk-chain, by SQL over the
+files, by the page of recalls, and by PostgreSQL.
 
     /usr/bin/python3 -m pytest ops/tests/test_recall_ways.py -m whole -n 2 --seed 7
 """
@@ -16,11 +16,13 @@ import tempfile
 from typing import Iterator
 
 import pytest
-from lab import small
+from lab import databases, small
 from lab.desk import rows_of_archive
 from lab.tools import Word, call_tool, run
 from lab.world import ArchivedLine
+from tracedesk_dev import postgres
 from tracedesk_dev.trial import in_memory
+from tracedesk_ops import sealed
 from tracedesk_ops.recallpage import view
 
 CHAINS, BATCHES = 20, 50  # of a batch; one batch is in the gate
@@ -57,11 +59,15 @@ class Asked:
 
 
 class Chain:
-    """A line with up to three archives, whose boards have pieces of random reels."""
+    """A line with up to three archives, whose boards have pieces of random reels; it has the name
+    of its folder.
+    """
 
     def __init__(self, program: pathlib.Path, folder: pathlib.Path, rng: random.Random) -> None:
-        self.room, self.line = folder, ArchivedLine(program, folder / "L1", "L1")
-        self.line.feed(small.set_up(), statuses=(0,))
+        name = folder.name
+        self.room, self.line = folder, ArchivedLine(program, folder / name, name)
+        own = small.say("PartDefined", f"part-{name}", PartNumber=name)
+        self.line.feed([*small.set_up(), own], statuses=(0,))
         self.placed: set[tuple[str, str]] = set()
         left = dict.fromkeys(REELS, PIECES)
         for part in range(rng.randint(1, MOST_FILES)):
@@ -71,9 +77,9 @@ class Chain:
             for number in range(rng.randint(0, MOST_BOARDS)):
                 reel = rng.choice([reel for reel in REELS if left[reel]])
                 left[reel] -= 1
-                name = self.half_made(reel, rng) or f"SN-{part}-{number}"
-                lines += small.board(reel, name, uid=f"{name}-{reel}")
-                self.placed.add((name, reel))
+                board = self.half_made(reel, rng) or f"{name}-{part}-{number}"
+                lines += small.board(reel, board, uid=f"{board}-{reel}")
+                self.placed.add((board, reel))
             self.line.feed(lines, statuses=(0,))
         self.line.serve()
 
@@ -120,6 +126,13 @@ class Chain:
         assert answer.is_complete, answer.reasons
         return {row[0] for row in answer.tables[0].rows}
 
+    def seal(self) -> pathlib.Path:
+        """Puts the desk next to the archives; the line's folder."""
+        name = sealed.name_of(sealed.digits_of(self.line.last))
+        shutil.copy(self.line.last, self.line.archive / name)
+        (self.line.folder / "lost").mkdir()
+        return self.line.folder
+
 
 @pytest.fixture
 def room() -> Iterator[pathlib.Path]:
@@ -127,27 +140,33 @@ def room() -> Iterator[pathlib.Path]:
         yield pathlib.Path(name)
 
 
-def difference(program: pathlib.Path, folder: pathlib.Path, rng: random.Random) -> str:
-    """What the ways say of a question over a chain, if it isn't the same."""
-    chain = Chain(program, folder, rng)
+def difference(chain: Chain, rng: random.Random) -> str:
+    """What three ways say of a question over a chain, if it isn't the same."""
     try:
         asked = Asked.random(rng)
         wanted = {board for board, reel in chain.placed if reel in asked.reels}
         found = chain.by_chain(asked), chain.by_sql(asked), chain.by_page(asked)
     finally:
         chain.line.end()
-    if found != (wanted, wanted, wanted):
-        return f"{asked}: {found}, and not {wanted}"
-    shutil.rmtree(folder)
-    return ""
+    return "" if found == (wanted,) * 3 else f"{asked}: {found}, and not {wanted}"
 
 
 @pytest.mark.parametrize("batch", [0, *OTHERS])
 def test_the_boards_of_a_question_are_the_same_in_each_way(
-    program: pathlib.Path, room: pathlib.Path, seed: int, batch: int
+    program: pathlib.Path, server: postgres.Server, room: pathlib.Path, seed: int, batch: int
 ) -> None:
-    def differs(number: int) -> str:
-        return difference(program, room / str(number), random.Random(f"{seed} {batch} {number}"))
+    def made(number: int) -> tuple[Chain, str]:
+        rng = random.Random(f"{seed} {batch} {number}")
+        chain = Chain(program, room / f"L{number}", rng)
+        return chain, difference(chain, rng)
 
     with concurrent.futures.ThreadPoolExecutor(AT_ONCE) as pool:
-        assert not [text for text in pool.map(differs, range(CHAINS)) if text]
+        chains, texts = zip(*pool.map(made, range(CHAINS)))
+    assert not [text for text in texts if text]
+    database = databases.create(server, f"ways_{batch}")
+    database.load(*(chain.seal() for chain in chains))
+    wanted = {(chain.line.name, *placed) for chain in chains for placed in chain.placed}
+    assert {*database.rows("SELECT line, board, reel FROM piece")} == wanted
+    for reel in REELS:
+        boards = {row["board"] for row in database.query("recall", reel=reel).rows}
+        assert boards == {board for _, board, its in wanted if its == reel}
