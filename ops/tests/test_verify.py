@@ -280,6 +280,30 @@ def test_without_the_archives_at_hand_nothing_is_said_of_them(plant: Plant) -> N
     done.expect(1, "is in none of the folders")
 
 
+# lines of signers, who is wanted, and whether they take a signature of the plant's key
+SIGNERS = {
+    "the plant": (["plant {}"], "plant", True),
+    "another plant of the same file": (["plant {}", "brno {other}"], "brno", False),
+    "a key that was replaced": (['plant valid-before="20260101" {}'], "", False),
+    "a key of another use": (['plant namespaces="git" {}'], "", False),
+}
+
+
+@pytest.mark.parametrize("name", SIGNERS)
+def test_whose_signature_counts(folder: pathlib.Path, name: str) -> None:
+    lines, who, is_taken = SIGNERS[name]
+    key, other = (key_in(folder, its).with_suffix(".pub").read_text() for its in ("a", "b"))
+    (folder / "signers").write_text("".join(its.format(key, other=other) for its in lines))
+    (folder / signing.SUMS).write_bytes(b"sums")
+    signing.sign(folder, folder / "a")
+    signed = b"sums", (folder / signing.SIGNATURE).read_bytes(), folder / "signers"
+    if is_taken:
+        assert signing.signer(*signed, who) == "plant"
+    else:
+        with pytest.raises(signing.NoSignature):
+            signing.signer(*signed, who)
+
+
 # --- What is read
 
 

@@ -1,6 +1,6 @@
 """Verifies the evidence of a recall: who signed it, that nothing in it was changed, and its answer.
 
-usage: tracedesk-verify FOLDER --signers FILE [--archives FOLDER].. [--program FILE]
+usage: tracedesk-verify FOLDER --signers FILE [--signer NAME] [--archives FOLDER].. [--program FILE]
 
 examples:
   tracedesk-verify L-77 --signers plant.signers
@@ -15,6 +15,7 @@ Standard error names the question, its time and lines, and whether the answer is
 
 --signers FILE     whose signatures count: lines as `plant namespaces="tracedesk-recall" ssh-ed25519
                    AAAA..`, which the plant gives you by another way than with the evidence
+--signer NAME      whose signature it must be, if FILE has several names
 --archives FOLDER  where archives of the certificate are; may be given several times
 --program FILE     tracedesk, next to which is tracedesk-chain; else PROGRAM in the environment, or
                    tracedesk on the path
@@ -43,6 +44,7 @@ def parse() -> argparse.Namespace:
     reader = reader_of(__doc__)
     reader.add_argument("folder", type=pathlib.Path, metavar="FOLDER", help="the evidence")
     reader.add_argument("--signers", type=pathlib.Path, metavar="FILE", required=True)
+    reader.add_argument("--signer", default="", metavar="NAME")
     reader.add_argument(
         "--archives", type=pathlib.Path, action="append", default=[], metavar="FOLDER"
     )
@@ -57,7 +59,7 @@ def parse() -> argparse.Namespace:
 
 
 def verify(words: argparse.Namespace) -> int:
-    who, contents = verifying.signed(words.folder, words.signers)
+    who, contents = verifying.signed(words.folder, words.signers, words.signer)
     told = verifying.told_in(contents)
     plant.tell(f"signed by {who}")
     with files.Room() as room:

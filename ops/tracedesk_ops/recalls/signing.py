@@ -76,16 +76,18 @@ def at_hand(signature: bytes) -> Iterator[str]:
         yield copy.name
 
 
-def signer(sums: bytes, signature: bytes, signers: pathlib.Path) -> str:
-    """Who of a file of allowed signers signed these checksums; a NoSignature if nobody did."""
+def signer(sums: bytes, signature: bytes, signers: pathlib.Path, name: str = "") -> str:
+    """Who of a file of allowed signers signed these checksums; a NoSignature if nobody did, or not
+    the one of a name that is given.
+    """
     with at_hand(signature) as path:
         words = ("-s", path, "-f", signers)
         try:
-            name = keygen("-Y", "find-principals", *words).splitlines()[0]
+            who = name or keygen("-Y", "find-principals", *words).splitlines()[0]
         except NoSignature as fault:
             raise NoSignature(
                 f"its key is that of nobody in {signers}: ask the plant for its key by another way"
                 " than with the evidence"
             ) from fault
-        keygen("-Y", "verify", *words, "-I", name, "-n", NAMESPACE, given=sums)
-    return name
+        keygen("-Y", "verify", *words, "-I", who, "-n", NAMESPACE, given=sums)
+    return who

@@ -42,11 +42,11 @@ def read(folder: pathlib.Path, name: str, most: int) -> bytes:
     return text
 
 
-def signed(folder: pathlib.Path, signers: pathlib.Path) -> tuple[str, Contents]:
+def signed(folder: pathlib.Path, signers: pathlib.Path, name: str = "") -> tuple[str, Contents]:
     """Who signed the evidence, and the files that the signature names, which are all of it."""
     sums, signature = (read(folder, name, MOST_SIGNED) for name in (SUMS, SIGNATURE))
     try:
-        who = signing.signer(sums, signature, signers)
+        who = signing.signer(sums, signature, signers, name)
     except signing.NoSignature as fault:
         raise Refused(f"the signature doesn't hold: {fault}") from fault
     rows = (row.partition("  ") for row in sums.decode(errors="replace").splitlines())
