@@ -206,8 +206,8 @@ class Line:
         return "open" if self.stops(number) else "undecided" if self.waits(number) else ""
 
     def is_known(self, entry: Entry) -> bool:
-        """Whether the book has this already: of a refusal an entry that is open, of a faulty message
-        one that waits for a decision.
+        """Whether the book has this already: of a refusal an entry that is open, of a faulty
+        message one that waits for a decision.
         """
         is_so = self.waits if entry.kind == "unread" else self.is_open
         return any(

@@ -19,13 +19,14 @@ LOTS = {"P1": "L1", "P2": "L1", "Q1": "L1"}  # the other reels are of L2
 BOARDS = ("B1", "B2", "B3")
 FIRST = datetime.datetime(2026, 3, 2, 6, 0)
 LEVELS = ("1", "1", "1", "5a", "6")
-GETS = ("/overdue", "/slots?machine=M", "/reel?reel=P1", "/line/state", "/line/book", "/line/none")
+GETS = ("/overdue", "/slots?machine=M", "/reel?reel=P1", "/none")
+GETS_OF_LINE = ("/line/state", "/line/book", "/line/none")
 Body = dict[str, Any]
 
 
 class Step(NamedTuple):
-    """What happens. `tell` is a request after which nothing else is asked. `share` says when a server
-    is killed within a request: after this share of the time that requests take.
+    """What happens. `tell` is a request after which nothing else is asked. `share` says when a
+    server is killed within a request: after this share of the time that requests take.
     """
 
     what: str  # ask, tell, restart, kill, killed, note
@@ -51,8 +52,9 @@ class Stream:
         self.chance = random.Random(f"line {seed}")
         self.steps: list[Step] = []
         self.messages: list[bytes] = []
-        self.minute, self.count, self.said = 0, 0, 0
+        self.minute, self.count, self.said, self.is_set_up = 0, 0, 0, False
         self.setup()
+        self.is_set_up = True
         weights = {name: weight for name, (weight, _) in KINDS.items()}
         for name in self.chance.choices(list(weights), list(weights.values()), k=length):
             KINDS[name][1](self)
@@ -63,7 +65,9 @@ class Stream:
         """A message, mostly a little later than the one before."""
         self.count += 1
         self.minute += self.chance.choice((0, 0, 0, 1, 1, 7)) if self.chance.random() < 0.9 else 700
-        at = self.minute + self.chance.choices((0, -9, 30_000), (92, 6, 2))[0]
+        at = self.minute
+        if self.is_set_up:
+            at += self.chance.choices((0, -9, 30_000), (92, 6, 2))[0]
         told: Body = {
             "MessageName": f"TraceDesk.{word}",
             "UniqueID": uid or f"u{self.count}",
@@ -103,9 +107,10 @@ class Stream:
         for part, reels in REELS.items():
             for reel in reels:
                 self.receive(part, reel)
-        for slot, part in SLOTS["A"].items():
-            self.say("MaterialsLoaded", Machine="M", Slot=slot, Reel=f"{part}1")
-        self.say("WorkStarted", Machine="M", Board="B1")
+        for number, machine in enumerate(MACHINES, 1):
+            for slot, part in SLOTS["A"].items():
+                self.say("MaterialsLoaded", Machine=machine, Slot=slot, Reel=f"{part}{number}")
+            self.say("WorkStarted", Machine=machine, Board=f"B{number}")
         left_out = self.chance.sample(range(len(self.steps)), self.chance.choice((0, 0, 1, 2, 7)))
         its = [
             it._replace(what="tell") if it.what == "ask" else it
@@ -125,7 +130,7 @@ class Stream:
         level = self.chance.choice(LEVELS)
         label = {"LabelMinutes": 900} if level == "6" else {}
         its = {"Reel": reel, "PartNumber": part, "Lot": LOTS.get(reel, "L2"), "Level": level}
-        self.say("ReelReceived", **its, Quantity=self.chance.choice((1, 3, 9)), **label)
+        self.say("ReelReceived", **its, Quantity=self.chance.choice((1, 4, 50)), **label)
         if level == "6" and self.chance.random() < 0.7:
             self.say("ReelBaked", Reel=reel)
 
@@ -155,6 +160,18 @@ class Stream:
         slot, machine = self.slot(), self.machine()
         self.say("MaterialsUnloaded", Machine=machine, Slot=slot)
         self.say("MaterialsLoaded", Machine=machine, Slot=slot, Reel=self.reel(slot))
+
+    def ready(self) -> None:
+        """All that a machine needs to work."""
+        machine, board = self.machine(), self.chance.choice(BOARDS)
+        self.say("WorkCompleted", Machine=machine, Board=self.chance.choice(BOARDS))
+        for slot, part in SLOTS["A"].items():
+            reel = f"{part}{self.count}"
+            its = {"Reel": reel, "PartNumber": part, "Lot": self.chance.choice(("L1", "L2"))}
+            self.say("ReelReceived", **its, Level="1", Quantity=50)
+            self.say("MaterialsUnloaded", Machine=machine, Slot=slot)
+            self.say("MaterialsLoaded", Machine=machine, Slot=slot, Reel=reel)
+        self.say("WorkStarted", Machine=machine, Board=board)
 
     def work(self) -> None:
         word = self.chance.choice(("WorkStarted", "WorkCompleted"))
@@ -291,7 +308,7 @@ class Stream:
             self.ask(target, ("slot,part,designators\n" + rows).encode())
 
     def get(self) -> None:
-        self.ask(self.chance.choice(GETS))
+        self.ask(self.chance.choice((*GETS, *GETS_OF_LINE)))
 
     def note(self) -> None:
         """An entry that `serve` doesn't write. Its place in the history is put in later."""
@@ -320,7 +337,7 @@ KINDS: dict[str, tuple[int, Callable[[Stream], None]]] = {
     **{"product": (5, Stream.product), "again": (12, Stream.again), "faulty": (6, Stream.faulty)},
     **{"decide": (9, Stream.decide), "hold": (7, Stream.hold), "file": (2, Stream.file)},
     **{"misspelled": (3, Stream.misspelled), "get": (1, Stream.get), "note": (5, Stream.note)},
-    "restart": (4, Stream.restart),
+    **{"restart": (4, Stream.restart), "ready": (4, Stream.ready)},
 }
 
 
