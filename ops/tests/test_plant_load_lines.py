@@ -63,7 +63,7 @@ def test_files_that_do_not_continue_what_is_loaded_are_refused(
     mirror = line.copy()
     for file in (mirror / "lost").iterdir():
         file.unlink()
-    database.refuse("older than those that are loaded, or of another desk", mirror)
+    database.refuse("REFUSED: R1: ", mirror)  # as a fork, or as older than what is loaded
     assert pieces(database) == before
     expect_whole(database, 3)
 
