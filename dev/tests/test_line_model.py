@@ -3,7 +3,7 @@ decisions, holds, restarts and kills: after each step each state, the book, the 
 answer are the model's.
 
     /usr/bin/python3 -m pytest dev/tests/test_line_model.py -n 4     2,000 streams
-    /usr/bin/python3 -m pytest dev/tests/test_line_model.py -m gate  100 of them
+    /usr/bin/python3 -m pytest dev/tests/test_line_model.py -m gate  40 of them
 
 A difference is told with the shortest stream that shows it. --seed N makes other streams.
 """
@@ -13,7 +13,7 @@ import pytest
 from tracedesk_dev import line_trial
 from tracedesk_dev.line_streams import stream
 
-BLOCK, BLOCKS, IN_GATE = 20, 100, 5  # streams of a test, and tests
+BLOCK, BLOCKS, IN_GATE = 10, 200, 4  # streams of a test, and tests
 
 
 @pytest.mark.parametrize(

@@ -304,8 +304,7 @@ class Line:
         if fault := self.fault_of(what, body):
             return fault
         its = json.loads(body)
-        told = {it: its[it] for it in ("Became", "By", "Reason") if it != "Became" or "Of" in its}
-        entry = Entry(len(self.history), what.removesuffix("s"), told=text(told).decode())
+        entry = Entry(len(self.history), what.removesuffix("s"), told=as_told(body))
         if what == "decisions":
             entry = entry._replace(of=its["Of"])
         elif its[SAYS[what]] == "reel":
