@@ -1,5 +1,6 @@
 """A recall of lots, reels and boards over two lines is what the program reports of each file."""
 import concurrent.futures
+import itertools
 import os
 import pathlib
 import shutil
@@ -122,10 +123,11 @@ def test_an_archive_that_changes_meanwhile_is_named(
     faults: Callable[..., list[str]], world: World, monkeypatch: pytest.MonkeyPatch
 ) -> None:
     file, run_to = world.first.archived[0], chains.run_to
-    kept = os.stat(file)
+    kept, times = os.stat(file), itertools.count(1)
 
     def touched(*words: Any) -> Any:
-        os.utime(file, (1, 1))
+        at = next(times)
+        os.utime(file, (at, at))
         return run_to(*words)
 
     monkeypatch.setattr(chains, "run_to", touched)

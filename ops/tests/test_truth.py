@@ -26,7 +26,7 @@ from truth.batch import Batch
 from truth.world import simulated
 
 BATCHES, RUNS = 100, 100  # of the whole test
-RUNS_PLANTED = 30  # until a fault of the rules at the line is found
+RUNS_PLANTED = 60  # until a fault of the rules at the line is found
 
 
 @pytest.fixture

@@ -49,6 +49,8 @@ def by_socket(sums: bytes, socket_at: pathlib.Path) -> bytes:
             link.shutdown(socket.SHUT_WR)
             with link.makefile("rb") as answer:
                 signature = answer.read(LONGEST)
+    except (BrokenPipeError, ConnectionResetError):  # it ended before it read all
+        signature = b""
     except OSError as fault:
         raise NoSignature(f"{socket_at} can't be asked: {fault}") from fault
     if not signature:
