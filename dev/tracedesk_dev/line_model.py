@@ -203,7 +203,7 @@ class Line:
         return self.book[number - 1].kind in WAIT and not self.is_decided(number)
 
     def state(self, number: int) -> str:
-        return "open" if self.stops(number) else "undecided" if self.waits(number) else ""
+        return "open" if self.is_open(number) else "undecided" if self.waits(number) else ""
 
     def is_known(self, entry: Entry) -> bool:
         """Whether the book has this already: of a refusal an entry that is open, of a faulty
@@ -387,5 +387,5 @@ class Line:
         """GET /line/counts."""
         numbers = range(1, len(self.book) + 1)
         its = {"Answer": "Counts", "Commands": len(self.history), "Entries": len(self.book)}
-        its["Open"] = sum(map(self.stops, numbers))
+        its["Open"] = sum(map(self.is_open, numbers))
         return 200, text(its | {"Undecided": sum(map(self.waits, numbers))})
