@@ -9,7 +9,7 @@ import tempfile
 from typing import Any, Callable, Iterator, Sequence
 from tracedesk_dev import reports
 from tracedesk_ops import copies
-from tracedesk_dev.fault_stories import Command, Files, Served, Story
+from tracedesk_dev.fault_stories import Command, Files, Served, ServedLine, Story
 
 
 def steps_of(asked: argparse.Namespace, case: str) -> list[Any]:
@@ -121,7 +121,7 @@ def heard(asked: argparse.Namespace, case: str) -> Story:
     ]
     parts, wanted = map(list, zip(*its))
     words = ["serve", "--db", "desk"]
-    story = Served(asked, f"line serve {case}", words, parts, wanted=wanted)
+    story = ServedLine(asked, f"line serve {case}", words, parts, wanted=wanted)
     story.program = asked.line
     return story
 

@@ -140,6 +140,8 @@ class Story:
         self.judged: set[Any] = set()
         self.lock = threading.Lock()
 
+    recovers = True  # from memory that was refused once, at the next request
+
     def process(
         self, room: pathlib.Path, words: list[str], env: Env = None, **how: Any
     ) -> subprocess.Popen[bytes]:
@@ -404,3 +406,14 @@ class Served(Story):
         fault.
         """
         return True
+
+
+class ServedLine(Served):
+    """The same by `tracedesk-line serve`. If memory is refused while it takes an entry in, it has
+    to be started again: what the book is asked for is Unavailable until then (docs/line.md).
+    """
+
+    recovers = False
+
+    def faults(self, kind: str) -> list[Any]:
+        return [*super().faults(kind), ("tracedesk: book Unavailable\n", 3)]
