@@ -416,4 +416,6 @@ class ServedLine(Served):
     recovers = False
 
     def faults(self, kind: str) -> list[Any]:
-        return [*super().faults(kind), ("tracedesk: book Unavailable\n", 3)]
+        words = "tracedesk-line: a word of the command line is not UTF-8\n"
+        of_words = [(words, 2)] if kind == "memory" else []  # while the words are read
+        return [*super().faults(kind), ("tracedesk: book Unavailable\n", 3), *of_words]
