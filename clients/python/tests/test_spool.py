@@ -187,13 +187,15 @@ def test_kills_lose_nothing_and_each_second_try_is_known(lab: Lab) -> None:
 
     def run(code: str, seconds: float) -> list[Any]:
         words = [sys.executable, "-c", code, str(SENDER.parent), str(lab.folder), str(n)]
-        with subprocess.Popen(words, stdout=subprocess.PIPE) as process:
+        with subprocess.Popen(words, stdout=subprocess.PIPE, bufsize=0) as process:
             assert process.stdout
             process.stdout.readline()  # it begins
-            with contextlib.suppress(subprocess.TimeoutExpired):
-                process.wait(seconds)
-            process.kill()
-            return [it.split() for it in process.stdout.read().splitlines(True) if it[-1:] == b"\n"]
+            try:  # what it prints is read meanwhile: a full pipe would hold it
+                said = process.communicate(timeout=seconds)[0]
+            except subprocess.TimeoutExpired:
+                process.kill()
+                said = process.communicate()[0]
+            return [it.split() for it in said.splitlines(True) if it[-1:] == b"\n"]
 
     for _ in range(8):
         kept += [int(it) for (it,) in run(puts, chance.random() / 5)]
