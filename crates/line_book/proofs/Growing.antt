@@ -3,7 +3,7 @@ use Rattle.desk_types.proofs.Common.{[], ◌&&◌, ◌++◌, ◌+◌, ◌<◌, �
 use Rattle.desk_types.proofs.Common.{All-cons, All-head, All-nil, All-tail, ap, arith, Bool, cond, false}
 use Rattle.desk_types.proofs.Common.{filter, filter-append, History, length, length-append, List, list_any}
 use Rattle.desk_types.proofs.Common.{list_any-append, Name, nat_lt, ne_eqb, None, not, Option, option_or, refl, Some}
-use Rattle.desk_types.proofs.Common.{subst, sym, true, unwrap_or, ℕ}
+use Rattle.desk_types.proofs.Common.{subst, sym, tape_after, tape_of, true, unwrap_or, ℕ}
 use Rattle.desk_laws.proofs.Common.{Entry, Stamped}
 use Rattle.std.proofs.lemmas.Bool.{le-ltb, lt-ltb, or_from}
 use Rattle.std.proofs.lemmas.List.Elements.{All-weaker}
@@ -181,6 +181,13 @@ held-end stock held (m ∷ B) n = held-end stock (held_after stock m.number m.ma
 pub hold-noted : (B : Book) (n : Note) (stock : Stock)
     → hold_on (B ++ n ∷ []) stock ≡ held_after stock n.number n.matter (hold_on B stock)
 hold-noted B n stock = held-end stock None B n
+
+-- ---- tapes
+
+pub tape-next : (H : History) (s : Stamped) (machine slot : Name)
+    → tape_of (accept H s) machine slot ≡ tape_after machine slot s.command (tape_of H machine slot)
+unfolding tape_of
+tape-next H s machine slot = refl
 
 -- ---- boards in work
 

@@ -12,7 +12,7 @@ ghost use Rattle.line_book.specs.Book.{Book, closes, decides, is_open};
 ghost use Rattle.line_book.specs.Causes.{causes, concerns};
 ghost use Rattle.line_book.specs.declared.cause.Cause.TheVariants.{NoWork, Open};
 ghost use Rattle.line_book.specs.Go.{MayWork};
-ghost use Rattle.line_book.specs.Guard.{IsGuard, IsNextNote, running_at};
+ghost use Rattle.line_book.specs.Guard.{IsGuard, IsNextNote, running_at, tape_at};
 ghost use Rattle.line_book.specs.Undecided.{is_known, repeats, undecided};
 
 use crate::cause::Cause;
@@ -20,16 +20,19 @@ use crate::closing::{closes, concerns, decides, is_fault, needs_decision, repeat
 use crate::holds::Holds;
 use crate::note::Note;
 use crate::setup::Setup;
+use crate::tapes::{Tape, note_tape, tape_at};
 use desk_types::{Command, Desk, Id, SheetRows, Stamped};
 use setup_sheets::Alternates;
 use std::alloc::{AllocError, Global};
 use std::collections::BTreeMap;
 
-/// The boards in work, the alternates and the holds, and the open and undecided entries. It keeps
+/// The boards in work, the tapes, the alternates and the holds, and the open and undecided entries. It keeps
 /// neither list.
 #[derive(Drop)]
 pub struct Guard {
+    alloc: Global,
     running: BTreeMap<Id, Id>,
+    tapes: BTreeMap<(Id, Id), Tape>,
     setup: Setup,
     open_notes: Vec<Note>,
     undecided: Vec<Note>,
@@ -37,11 +40,14 @@ pub struct Guard {
 
 impl Guard {
     /// Returns the guard of two empty lists. Takes no memory.
+    #[tactic(auto, unfolding(desk_types::specs::Tape::tape_of))]
     pub fn new(alloc: Global) -> Guard
         ensures { IsGuard [] [] result }
     {
         Guard {
+            alloc,
             running: BTreeMap::new(alloc),
+            tapes: BTreeMap::new(alloc),
             setup: Setup {
                 alternates: Alternates::new(alloc),
                 holds: Holds::new(alloc),
@@ -57,6 +63,7 @@ impl Guard {
             → OnOk result (IsGuard (accept H stamped.now) B self.new) }
     {
         note_running(&mut self.running, &stamped.command)?;
+        note_tape(self.alloc, &mut self.tapes, &stamped.command)?;
         note_alternate(&mut self.setup.alternates, &stamped.command)?;
         close(&mut self.open_notes, &stamped.command);
         Ok(())
@@ -104,6 +111,14 @@ impl Guard {
             → result ≡ in_work_on H machine.now }
     {
         self.running.get(machine).copied()
+    }
+
+    /// Returns the reels of the slot since its last load, first one first, with the spent ones.
+    pub fn tape_on(&self, machine: &Id, slot: &Id) -> &[Id]
+        // By `IsGuard` it is the tape of the history.
+        ensures { result.now ≡ tape_at self.now.tapes machine.now slot.now }
+    {
+        tape_at(&self.tapes, machine, slot)
     }
 
     /// Returns the entries that wait for a decision, oldest first.

@@ -16,6 +16,7 @@ mod reading;
 mod restored;
 mod row;
 mod setup;
+mod tapes;
 
 pub use cause::Cause;
 pub use guard::Guard;

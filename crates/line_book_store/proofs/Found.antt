@@ -1,6 +1,6 @@
 -- Entries, as queries find them.
-use Rattle.desk_types.proofs.Common.{[], ◌++◌, ◌+◌, ◌<◌, ◌==◌, ◌≤◌, ◌∙◌, ◌∷◌, ◌≡◌, ap, ap₂, arith, Bool, cases_Bool, codes, eq-eqb, eqb-true, false, filter, find, flat_map, IfOk, if◌then◌else◌, inl, inr, is_eq, IsPermutation, IsTrue, length, List, list_all, map, nat_tests, None, Option, option_map, pos, refl, Result, Some, subst, subst₂, sym, true, true≢false, ℕ, Err, Ok}
-use Rattle.line_tables.proofs.Common.{Binary, col, column, Compare, Database, Eq, everything, Ghosts, has_number, Held, holds, Int, IsAnswer, Null, only, op2, output, overlay, Query, Row, Selects, state, Term, understood, value_cmp, value_cmp-Int}
+use Rattle.desk_types.proofs.Common.{[], ◌++◌, ◌+◌, ◌<◌, ◌==◌, ◌≤◌, ◌∙◌, ◌∷◌, ◌≡◌, ap, ap₂, arith, Bool, cases_Bool, codes, eq-eqb, eqb-true, false, filter, find, flat_map, IfOk, if◌then◌else◌, inl, inr, is_eq, IsPermutation, IsTrue, length, List, list_all, map, nat_tests, None, Option, option_map, option_map_or, pos, refl, Result, slice_get, Some, subst, subst₂, sym, true, true≢false, ℕ, Err, Ok}
+use Rattle.line_tables.proofs.Common.{Binary, col, column, Compare, Database, Eq, everything, Ghosts, has_number, Held, holds, Int, IsAnswer, Null, only, op2, output, overlay, Query, Row, Schema, Selects, state, Table, Term, understood, value_cmp, value_cmp-Int}
 use Rattle.line_tables.proofs.{FindTexts.IsSelectIn, FindTexts.rows_from, Finds.and_true, Finds.one_order, Finds.overlay_none, Finds.rows_answer, Finds.shown_is, Finds.shown_of, Finds.whole, Keyed.number_test}
 use Rattle.line_book_store.specs.{Book.book_in, Book.book_schema, Book.book_tree, Book.entry_columns, Book.GoOn, Book.HoldsBook, Book.IndexedShelf, Book.PlainShelf, Book.Shelf, Book.shown_columns, Reading.entry_numbered, Reading.entry_row, Reading.ReadsBook, Reading.ReadsShelf, Reading.window}
 use Rattle.line_book.specs.declared.row.BookRow.{BookRow}
@@ -196,6 +196,28 @@ each_found : (k n : ℕ) (xs ys : List BookRow) → GoOn k xs → GoOn k ys → 
 each_found k n xs ys on on' same =
     let found = one_found k n ys on' in
     one_order _ (entry_row (entry_numbered n ys)) (subst (IsPermutation (filter (has_number n) (map entry_columns xs))) found (IsPermutation-filter (has_number n) _ _ same)) ∙ sym found
+
+-- The tree of the table that stands first behind the desk's.
+abbrev first_tree : Schema → ℕ
+first_tree s = option_map_or (λ (t : Table). t.tree) (slice_get s.tables 11) 0
+
+tree_first : (shelf : Shelf) → first_tree (book_schema shelf) ≡ book_tree shelf
+tree_first (IndexedShelf more) = refl
+tree_first (PlainShelf more) = refl
+
+-- A database has one book.
+pub one_book : (db : Database) (xs ys : List BookRow) → HoldsBook db xs → HoldsBook db ys
+    → map entry_columns xs ≡ map entry_columns ys
+one_book db xs ys p q =
+    let tree : book_tree q.shelf ≡ book_tree p.shelf = sym (tree_first q.shelf)
+    ∙ ap first_tree (sym q.schema ∙ p.schema) ∙ tree_first p.shelf in
+    let other : IsPermutation (book_in p.shelf db) (map entry_columns ys) = subst
+    (λ k. IsPermutation (map shown_columns (db.trees k)) (map entry_columns ys)) tree q.rows in
+    let both = IsPermutation-trans _ _ _ (IsPermutation-sym _ _ p.rows) other in
+    let of_xs = length-map xs entry_columns in
+    let of_ys = length-map ys entry_columns in
+    let long : length xs ≡ length ys = omega (arith, length_permutation _ _ both, of_xs, of_ys) in
+    same_rows 0 xs ys p.numbered q.numbered long (λ n. each_found 0 n xs ys p.numbered q.numbered both)
 
 module _ {S : Type 0} (g : Ghosts S) (a b : ℕ) (old : Held S) (rows : List Row) (h : Selects g SELECT_WINDOW.now (Int (pos a) ∷ Int (pos b) ∷ []) old rows) where
   abbrev ends : Row

@@ -1,5 +1,5 @@
 -- Rows that are read as entries.
-use Rattle.desk_types.proofs.Common.{[], ◌++◌, ◌+◌, ◌<◌, ◌==◌, ◌∙◌, ◌∷◌, ◌≡◌, ap, arith, Err, length, List, None, Ok, ok_or, Option, refl, Result, Some, string_bytes, subst, sym, ℕ}
+use Rattle.desk_types.proofs.Common.{[], ◌++◌, ◌+◌, ◌<◌, ◌==◌, ◌∙◌, ◌∷◌, ◌≡◌, ap, ap₂, arith, Err, length, List, map, None, Ok, ok_or, Option, refl, Result, Some, string_bytes, subst, sym, ℕ}
 use Rattle.desk_types.specs.Id.{IsId, Name}
 use Rattle.cfx_profile.specs.Fault.{◌>>=◌}
 use Rattle.line_book.proofs.RowsRead.{follows-read}
@@ -113,6 +113,14 @@ not-read b f named fault names wrong e n same read =
     let both : entry_in b f named ≡ Ok n = same_entry b f e same named ∙ ap (entry_in b e) (sym is) ∙ read.2 in
     absurd (let two = sym wrong ∙ both in cc)
 
+-- Rows with the same columns are read as one entry.
+same_note : (b : Reading) (e f : BookRow) (n m : Note) → entry_columns e ≡ entry_columns f → IsRead b e n
+    → IsRead b f m → n ≡ m
+same_note b e f n m same p q =
+    let named : p.0 ≡ q.0 = one_named f p.0 q.0 (same_names e f same p.0 p.1) q.1 in
+    let both : Ok n ≡ Ok m = sym p.2 ∙ same_entry b e f same p.0 ∙ ap (entry_in b f) named ∙ q.2 in
+    cc
+
 -- ---- rows in turn
 
 pub read-more : (b c d : Reading) (es : List BookRow) (ns : List Note) (e : BookRow) (n : Note) → AreRead b es ns c → IsRead c e n → d ≡ read_on c n → AreRead b (es ++ e ∷ []) (ns ++ n ∷ []) d
@@ -145,3 +153,19 @@ read-numbers b c (x ∷ es) (m ∷ ns) are =
     (read-number b x m are.0, subst (λ k. GoOn k es) follows.number (read-numbers (read_on b m) c es ns are.1))
 read-numbers b c [] (m ∷ ns) are = absurd are
 read-numbers b c (x ∷ es) [] are = absurd are
+
+pub same_notes : (b c d : Reading) (es fs : List BookRow) (ns ms : List Note)
+    → map entry_columns es ≡ map entry_columns fs → AreRead b es ns c → AreRead b fs ms d → ns ≡ ms
+same_notes b c d [] [] [] [] same p q = refl
+same_notes b c d (e ∷ es) (f ∷ fs) (n ∷ ns) (m ∷ ms) same p q =
+    let first : entry_columns e ≡ entry_columns f = cc in
+    let rest : map entry_columns es ≡ map entry_columns fs = cc in
+    let one = same_note b e f n m first p.0 q.0 in
+    ap₂ (λ x xs. x ∷ xs) one (same_notes (read_on b m) c d es fs ns ms rest
+    (subst (λ (x : Note). AreRead (read_on b x) es ns c) one p.1) q.1)
+same_notes b c d [] [] [] (m ∷ ms) same p q = absurd q
+same_notes b c d [] [] (n ∷ ns) ms same p q = absurd p
+same_notes b c d [] (f ∷ fs) ns ms same p q = absurd (cc)
+same_notes b c d (e ∷ es) [] ns ms same p q = absurd (cc)
+same_notes b c d (e ∷ es) (f ∷ fs) [] ms same p q = absurd p
+same_notes b c d (e ∷ es) (f ∷ fs) (n ∷ ns) [] same p q = absurd q

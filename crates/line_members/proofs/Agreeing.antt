@@ -4,11 +4,10 @@ use Rattle.desk_types.proofs.Common.{same-refl, Some, ℕ}
 use Rattle.desk_types.specs.declared.take.Purpose.{Purpose}
 use Rattle.desk_types.specs.declared.take.Purpose.TheVariants.{Placed, Rejected, Counted}
 use Rattle.desk_types.specs.declared.take.Take.{Take}
-use Rattle.line_members.specs.declared.comparison.SlotTape.{SlotTape}
 use Rattle.line_members.specs.declared.named_reels.MachineReels.TheVariants.{Named}
 use Rattle.line_members.specs.Accepted.{compared}
 use Rattle.line_members.specs.Agreement.{Agree}
-use Rattle.line_members.specs.Comparison.{differences, piece_from, piece_of, pieces}
+use Rattle.line_members.specs.Comparison.{Tapes, differences, piece_from, piece_of, pieces}
 
 same_reel : (purpose : Purpose) (reel : Name) → piece_from purpose reel reel ≡ None
 same_reel (Placed board designator machine slot) reel = rw (same-refl reel) refl
@@ -26,7 +25,7 @@ no_pieces (t ∷ ts) [] agree = refl
 no_pieces (t ∷ ts) (r ∷ rs) agree =
     ap (λ piece. option_to_list piece ++ pieces ts rs) (no_piece t r agree.0) ∙ no_pieces ts rs agree.1
 
-pub no_finding : (told : List ℕ) (machine board : Name) (tapes : List SlotTape) (takes : List Take)
+pub no_finding : (told : List ℕ) (machine board : Name) (tapes : Tapes) (takes : List Take)
     (reels : List (Option Name)) → Agree takes reels → compared told machine board tapes takes (Named reels) ≡ []
 no_finding told machine board tapes takes reels agree =
     ap (differences machine board tapes) (no_pieces takes reels agree)

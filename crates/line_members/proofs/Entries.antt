@@ -1,5 +1,5 @@
--- Each finding is about no refused or faulty message.
-use Rattle.desk_types.proofs.Common.{[], ◌≡◌, All, All-append, All-nil, Bool, false, get_or, if◌then◌else◌, length, List, Name, None, Option}
+-- The entry of each finding is plain.
+use Rattle.desk_types.proofs.Common.{[], All, All-append, All-nil, Bool, false, get_or, if◌then◌else◌, length, List, Name, None, Option}
 use Rattle.desk_types.proofs.Common.{option_map, option_map_or, option_to_list, refl, Some, true, ℕ}
 use Rattle.std.proofs.lemmas.List.Elements.{All-cons, All-map}
 use Rattle.desk_types.specs.declared.change.Change.{Change}
@@ -9,29 +9,24 @@ use Rattle.desk_types.specs.declared.take.Take.{Take}
 use Rattle.serde_json.specs.Data.{Data}
 use Rattle.line_book.specs.declared.note.Matter.{Matter}
 use Rattle.line_book.specs.declared.note.Matter.TheVariants.{Boundary, Differs}
-use Rattle.line_entries.specs.Rows.{is_about_message}
 use Rattle.line_members.specs.declared.comparison.Piece.{Piece}
-use Rattle.line_members.specs.declared.comparison.SlotTape.{SlotTape}
-use Rattle.line_members.specs.declared.finding.Finding.{Finding}
 use Rattle.line_members.specs.declared.named_reels.MachineReels.{MachineReels}
 use Rattle.line_members.specs.declared.named_reels.MachineReels.TheVariants.{Absent, Uncompared, Named}
 use Rattle.line_members.specs.declared.receipt.AttributeName.{AttributeName}
 use Rattle.line_members.specs.declared.receipt.AttributeName.TheVariants.{DateCode, Supplier, MakerPart, Order}
-use Rattle.line_members.specs.Accepted.{accepted, accepted_by, compared}
+use Rattle.line_members.specs.Accepted.{accepted, accepted_by, compared, IsPlain}
 use Rattle.line_members.specs.Body.{body_in}
-use Rattle.line_members.specs.Comparison.{are_neighbors, finding_of, firsts, pieces, tape_in}
+use Rattle.line_members.specs.Comparison.{are_neighbors, designators_like, finding_of, firsts, pieces, Tapes}
 use Rattle.line_members.specs.NamedReels.{machine_reels}
 use Rattle.line_members.specs.Receipt.{attribute_at, attribute_text, attributes_in, finding, finding_at}
-
-abbrev IsPlain : Finding → Type 0
-IsPlain f = is_about_message f.matter ≡ false
 
 -- ---- attributes
 
 of_value : (reel : Name) (name : AttributeName) (value : Option (List ℕ))
     → All IsPlain (option_to_list (option_map (finding reel name) value))
 of_value reel name None = All-nil IsPlain
-of_value reel name (Some text) = All-cons IsPlain (finding reel name text) [] refl (All-nil IsPlain)
+of_value reel name (Some text) =
+    All-cons IsPlain (finding reel name text) [] (refl, λ about is. cc) (All-nil IsPlain)
 
 of_attribute : (reel : Name) (body : Data) (name : AttributeName)
     → All IsPlain (option_to_list (finding_at reel body name))
@@ -46,28 +41,30 @@ of_body reel (Some body) =
 
 -- ---- reels
 
-of_matter : (near : Bool) (a b : Matter) → is_about_message a ≡ false → is_about_message b ≡ false
-    → is_about_message (if near then a else b) ≡ false
-of_matter true a b first second = first
-of_matter false a b first second = second
+of_matter : (near : Bool) (a b : Matter) (told : List ℕ) → IsPlain (record { matter = a; told = told })
+    → IsPlain (record { matter = b; told = told })
+    → IsPlain (record { matter = if near then a else b; told = told })
+of_matter true a b told first second = first
+of_matter false a b told first second = second
 
-of_piece : (machine board : Name) (tapes : List SlotTape) (ps : List Piece) (p : Piece)
+of_piece : (machine board : Name) (tapes : Tapes) (ps : List Piece) (p : Piece)
     → IsPlain (finding_of machine board tapes ps p)
 of_piece machine board tapes ps p =
-    of_matter (are_neighbors (tape_in tapes p.slot) p.reel p.desk_reel)
-    (Boundary machine p.slot board p.reel p.desk_reel) (Differs machine p.slot board p.reel p.desk_reel) refl refl
+    of_matter (are_neighbors (tapes machine p.slot) p.reel p.desk_reel)
+    (Boundary machine p.slot board p.reel p.desk_reel) (Differs machine p.slot board p.reel p.desk_reel)
+    (designators_like p ps) (refl, λ about is. cc) (refl, λ about is. cc)
 
-of_reels : (told : List ℕ) (machine board : Name) (tapes : List SlotTape) (takes : List Take) (reels : MachineReels)
+of_reels : (told : List ℕ) (machine board : Name) (tapes : Tapes) (takes : List Take) (reels : MachineReels)
     → All IsPlain (compared told machine board tapes takes reels)
 of_reels told machine board tapes takes Absent = All-nil IsPlain
-of_reels told machine board tapes takes Uncompared = All-cons IsPlain _ [] refl (All-nil IsPlain)
+of_reels told machine board tapes takes Uncompared = All-cons IsPlain _ [] (refl, λ about is. cc) (All-nil IsPlain)
 of_reels told machine board tapes takes (Named reels) = let ps = pieces takes reels in
     All-map IsPlain (finding_of machine board tapes ps) (firsts ps) (λ k d inside.
     of_piece machine board tapes ps (get_or (firsts ps) k d))
 
 -- ---- messages
 
-of_command : (told : List ℕ) (tapes : List SlotTape) (takes : List Take) (c : Command)
+of_command : (told : List ℕ) (tapes : Tapes) (takes : List Take) (c : Command)
     → All IsPlain (accepted_by told tapes takes c)
 of_command told tapes takes (command.PartDefined part) = All-nil IsPlain
 of_command told tapes takes (command.AlternateAllowed part alternate) = All-nil IsPlain
@@ -88,5 +85,5 @@ of_command told tapes takes (command.MaterialsScrapped machine slot quantity) = 
 of_command told tapes takes (command.CountsTaken counts) = All-nil IsPlain
 of_command told tapes takes command.ClockSet = All-nil IsPlain
 
-pub of_change : (told : List ℕ) (tapes : List SlotTape) (change : Change) → All IsPlain (accepted told tapes change)
+pub of_change : (told : List ℕ) (tapes : Tapes) (change : Change) → All IsPlain (accepted told tapes change)
 of_change told tapes change = of_command told tapes change.takes change.stamped.command

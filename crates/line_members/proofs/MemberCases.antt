@@ -1,14 +1,14 @@
 -- Worked cases: attributes, reels that a machine names, and what is found.
-use Rattle.desk_types.proofs.Common.{[], ◌∷◌, ◌≡◌, codes, false, List, Name, None, refl, Some}
+use Rattle.desk_types.proofs.Common.{[], ◌∷◌, ◌≡◌, codes, false, if◌then◌else◌, List, Name, None, refl, same, Some}
 use Rattle.desk_types.proofs.RowsCommon.{B1, K1, K2, K3, L1, M, P, R1, R2, R3, R4, S1, S2}
 use Rattle.desk_types.specs.declared.take.Purpose.TheVariants.{Placed}
 use Rattle.desk_types.specs.declared.take.Take.{Take}
 use Rattle.cfx_profile.specs.Forms.{id_of, is_printable}
 use Rattle.serde_json.specs.Data.{Data, Items, no_items, item, no_members, member, array, null, number, object, string, unsigned}
 use Rattle.line_book.specs.declared.note.Matter.TheVariants.{Attribute, Boundary, Differs}
-use Rattle.line_members.specs.declared.comparison.SlotTape.{SlotTape}
 use Rattle.line_members.specs.declared.named_reels.MachineReels.TheVariants.{Absent, Uncompared, Named}
 use Rattle.line_members.specs.Accepted.{compared}
+use Rattle.line_members.specs.Comparison.{Tapes}
 use Rattle.line_members.specs.NamedReels.{reels_said}
 use Rattle.line_members.specs.Receipt.{attributes_in}
 
@@ -62,9 +62,9 @@ piece slot designator = record {
   overdue = false;
 }
 
--- Reels K1 and K2 are on slot 1.
-abbrev tapes : List SlotTape
-tapes = record { slot = S1; reels = K1 ∷ K2 ∷ [] } ∷ []
+-- Reels K1 and K2 are on slot 1 of each machine, and no reel is on another slot.
+abbrev tapes : Tapes
+tapes machine slot = if same slot S1 then K1 ∷ K2 ∷ [] else []
 
 -- The machine took the first and the last piece from the reel behind, and the third from another.
 pub a_neighbor_and_another_reel : compared [] M B1 tapes

@@ -1,7 +1,6 @@
 -- The pieces of an install for which the machine names another reel than the desk, and their findings.
 use Rattle.std.specs.Prelude.{ℕ, Bool, false, ◌&&◌, ◌||◌, Option, Some, None, option_to_list, List, [], ◌∷◌, ◌++◌, fold, map, if◌then◌else◌}
-use Rattle.std.specs.List.{find, list_any}
-use Rattle.std.specs.Option.{option_map_or}
+use Rattle.std.specs.List.{list_any}
 use Rattle.desk_types.specs.declared.take.Purpose.{Purpose}
 use Rattle.desk_types.specs.declared.take.Purpose.TheVariants.{Placed}
 use Rattle.desk_types.specs.declared.take.Take.{Take}
@@ -9,7 +8,6 @@ use Rattle.desk_types.specs.Id.{Name, same}
 use Rattle.line_book.specs.declared.note.Matter.{Matter}
 use Rattle.line_book.specs.declared.note.Matter.TheVariants.{Boundary, Differs}
 use Rattle.line_members.specs.declared.comparison.Piece.{Piece}
-use Rattle.line_members.specs.declared.comparison.SlotTape.{SlotTape}
 use Rattle.line_members.specs.declared.finding.Finding.{Finding}
 
 -- ---- pieces
@@ -77,27 +75,26 @@ is_behind before (reel ∷ reels) a b = is_pair before reel a b || is_behind (So
 abbrev pub are_neighbors : List Name → (a b : Name) → Bool
 are_neighbors tape a b = is_behind None tape a b || is_behind None tape b a
 
--- The tape of the slot, if it has one.
-abbrev pub tape_in : List SlotTape → Name → List Name
-tape_in tapes slot =
-    option_map_or (λ (t : SlotTape). t.reels) (find (λ t. same t.slot slot) tapes) []
+-- The tape of each machine and slot.
+abbrev pub Tapes : Type 0
+Tapes = (machine slot : Name) → List Name
 
 -- ---- findings
 
 -- A boundary if the two reels are neighbors on the slot's tape: near a splice either may be right.
-abbrev pub matter_of : (machine board : Name) → List SlotTape → Piece → Matter
+abbrev pub matter_of : (machine board : Name) → Tapes → Piece → Matter
 matter_of machine board tapes p =
-    if are_neighbors (tape_in tapes p.slot) p.reel p.desk_reel
+    if are_neighbors (tapes machine p.slot) p.reel p.desk_reel
     then Boundary machine p.slot board p.reel p.desk_reel
     else Differs machine p.slot board p.reel p.desk_reel
 
 -- The finding of this difference, which names the designators of all its pieces.
-abbrev pub finding_of : (machine board : Name) → List SlotTape → List Piece → Piece → Finding
+abbrev pub finding_of : (machine board : Name) → Tapes → List Piece → Piece → Finding
 finding_of machine board tapes ps p = record {
   matter = matter_of machine board tapes p;
   told = designators_like p ps;
 }
 
 -- A finding for each slot and pair of reels, in the order of their first pieces.
-abbrev pub differences : (machine board : Name) → List SlotTape → List Piece → List Finding
+abbrev pub differences : (machine board : Name) → Tapes → List Piece → List Finding
 differences machine board tapes ps = map (finding_of machine board tapes ps) (firsts ps)

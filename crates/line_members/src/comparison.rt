@@ -1,22 +1,14 @@
 //! The pieces for which a machine names another reel than the desk.
 
-ghost use Rattle.std.specs.Prelude.{◌≡◌, ◌++◌, None, map, option_map, option_to_list, IfOk, OnOk};
-ghost use Rattle.std.specs.List.{find, list_any};
-ghost use Rattle.desk_types.specs.Id.{same};
-ghost use Rattle.line_members.specs.declared.comparison.SlotTape.{SlotTape};
-ghost use Rattle.line_members.specs.Comparison.{are_neighbors, designators_like, differences, finding_of, firsts, is_alike, is_behind, is_pair, matter_of, piece_from, piece_of, pieces, tape_in, with_alike, with_first, with_word};
+ghost use Rattle.std.specs.Prelude.{◌≡◌, ◌++◌, None, map, option_to_list, IfOk, OnOk};
+ghost use Rattle.std.specs.List.{list_any};
+ghost use Rattle.line_book.specs.Guard.{tape_at};
+ghost use Rattle.line_members.specs.Comparison.{are_neighbors, designators_like, differences, finding_of, firsts, is_alike, is_behind, is_pair, matter_of, piece_from, piece_of, pieces, with_alike, with_first, with_word};
 
 use crate::finding::Finding;
-use desk_types::{Designator, Id, IdList, Listing, Purpose, Take, Text};
-use line_book::Matter;
+use desk_types::{Designator, Id, Listing, Purpose, Take, Text};
+use line_book::{Guard, Matter};
 use std::alloc::{AllocError, Global};
-
-/// A slot's tape, first reel first, with the spent ones.
-#[derive(Drop)]
-pub struct SlotTape {
-    pub slot: Id,
-    pub reels: IdList,
-}
 
 /// A piece for which the machine names another reel than the desk.
 #[derive(Clone, Copy, PartialEq, Eq)]
@@ -87,30 +79,30 @@ pub fn differences(
     alloc: Global,
     machine: &Id,
     board: &Id,
-    tapes: &[SlotTape],
+    guard: &Guard,
     pieces: &[Piece],
 ) -> Result<Vec<Finding>, AllocError>
     ensures { IfOk result (λ found. found.items
-        ≡ differences machine.now board.now tapes.now pieces.now) }
+        ≡ differences machine.now board.now (tape_at guard.now.tapes) pieces.now) }
 {
     let firsts = firsts(alloc, pieces)?;
-    findings_of(alloc, machine, board, tapes, pieces, firsts.as_slice())
+    findings_of(alloc, machine, board, guard, pieces, firsts.as_slice())
 }
 
 fn findings_of(
     alloc: Global,
     machine: &Id,
     board: &Id,
-    tapes: &[SlotTape],
+    guard: &Guard,
     pieces: &[Piece],
     firsts: &[Piece],
 ) -> Result<Vec<Finding>, AllocError>
     ensures { IfOk result (λ found. found.items
-        ≡ map (finding_of machine.now board.now tapes.now pieces.now) firsts.now) }
+        ≡ map (finding_of machine.now board.now (tape_at guard.now.tapes) pieces.now) firsts.now) }
 {
     let mut found = Vec::new(alloc);
     for first in firsts {
-        let finding = finding_of(alloc, machine, board, tapes, pieces, first)?;
+        let finding = finding_of(alloc, machine, board, guard, pieces, first)?;
         found.push(finding)?;
     }
     Ok(found)
@@ -152,22 +144,27 @@ fn finding_of(
     alloc: Global,
     machine: &Id,
     board: &Id,
-    tapes: &[SlotTape],
+    guard: &Guard,
     pieces: &[Piece],
     piece: &Piece,
 ) -> Result<Finding, AllocError>
     ensures { IfOk result (λ finding. finding
-        ≡ finding_of machine.now board.now tapes.now pieces.now piece.now) }
+        ≡ finding_of machine.now board.now (tape_at guard.now.tapes) pieces.now piece.now) }
 {
     Ok(Finding {
-        matter: matter_of(machine, board, tapes, piece),
+        matter: matter_of(machine, board, guard, piece),
         told: designators_like(alloc, piece, pieces)?,
     })
 }
 
-fn matter_of(machine: &Id, board: &Id, tapes: &[SlotTape], piece: &Piece) -> Matter
-    ensures { result ≡ matter_of machine.now board.now tapes.now piece.now }
+fn matter_of(machine: &Id, board: &Id, guard: &Guard, piece: &Piece) -> Matter
+    ensures { result ≡ matter_of machine.now board.now (tape_at guard.now.tapes) piece.now }
 {
+    let is_near = are_neighbors(
+        guard.tape_on(machine, &piece.slot),
+        &piece.reel,
+        &piece.desk_reel,
+    );
     let machine = *machine;
     let board = *board;
     let Piece {
@@ -176,7 +173,7 @@ fn matter_of(machine: &Id, board: &Id, tapes: &[SlotTape], piece: &Piece) -> Mat
         reel,
         ..
     } = *piece;
-    if are_neighbors(tape_in(tapes, &slot), &reel, &desk_reel) {
+    if is_near {
         Matter::Boundary {
             machine,
             slot,
@@ -221,22 +218,6 @@ fn add_word(text: &mut Vec<u8>, word: &[u8]) -> Result<(), AllocError>
         text.push(b' ')?;
     }
     text.extend_from_slice(word)
-}
-
-fn tape_in<'a>(tapes: &'a [SlotTape], slot: &Id) -> &'a [Id]
-    ensures { result.now ≡ tape_in tapes.now slot.now }
-{
-    match first_at(tapes, slot) {
-        Some(tape) => tape.reels.as_slice(),
-        None => &[],
-    }
-}
-
-fn first_at<'a>(tapes: &'a [SlotTape], slot: &Id) -> Option<&'a SlotTape>
-    ensures { option_map (λ tape. tape.now) result
-        ≡ find (λ (tape : SlotTape). same tape.slot slot.now) tapes.now }
-{
-    tapes.iter().find(|tape| tape.slot == *slot)
 }
 
 fn are_neighbors(tape: &[Id], a: &Id, b: &Id) -> bool

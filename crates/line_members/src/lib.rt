@@ -12,7 +12,6 @@ mod message;
 mod named_reels;
 mod receipt;
 
-pub use comparison::SlotTape;
 pub use finding::Finding;
 pub use law::{agreement_makes_no_finding, findings_are_plain};
 pub use message::accepted;

@@ -3,11 +3,9 @@
 use super::id;
 use super::sending::{command, stamped};
 use desk_types::{Change, Designator, Detail, Listing, Purpose, Take};
-use line_book::{Matter, Reading};
+use line_book::{Guard, Matter, Reading};
 use line_entries::{Place, Sender, plain_note, row_of};
-use line_members::{
-    AttributeName, Finding, MachineReels, SlotTape, accepted, attributes, machine_reels,
-};
+use line_members::{AttributeName, Finding, MachineReels, accepted, attributes, machine_reels};
 use std::alloc::Global;
 use std::test::Fail;
 
@@ -59,17 +57,13 @@ fn install(alloc: Global) -> Result<Change, Fail> {
     )
 }
 
-/// Returns the tape of slot 1: reel K2 is spliced behind reel K1.
-fn tapes(alloc: Global) -> Result<Vec<SlotTape>, Fail> {
-    let mut reels = Vec::new(alloc);
-    reels.push(id("K1")?)?;
-    reels.push(id("K2")?)?;
-    let mut tapes = Vec::new(alloc);
-    tapes.push(SlotTape {
-        slot: id("1")?,
-        reels: Listing::new(reels),
-    })?;
-    Ok(tapes)
+/// Returns a guard of slot 1 of machine M1: reel K2 is spliced behind reel K1.
+fn guard(alloc: Global) -> Result<Guard, Fail> {
+    let mut guard = Guard::new(alloc);
+    for text in ["MaterialsLoaded\tM1\t1\tK1", "MaterialsSpliced\tM1\t1\tK2"] {
+        guard.accepted(&stamped(10, command(alloc, text)?)?)?;
+    }
+    Ok(guard)
 }
 
 fn is_finding(finding: &Finding, matter: Matter, told: &str) -> bool {
@@ -87,7 +81,7 @@ fn a_receipt_has_attributes(rt: HostRuntime) -> Result<(), Fail> {
     let name = id("Order")?;
     assert!(rt; is_finding(&found[1], Matter::Attribute { reel, name }, "4711 \u{fc}"));
     let received = change(alloc, "ReelReceived\tK1\tP\tL\t1\t9\t0", Vec::new(alloc))?;
-    assert!(rt; accepted(alloc, RECEIPT.as_bytes(), &[], &received)? == found);
+    assert!(rt; accepted(alloc, RECEIPT.as_bytes(), &Guard::new(alloc), &received)? == found);
     Ok(())
 }
 
@@ -111,13 +105,8 @@ fn machines_name_reels(rt: HostRuntime) -> Result<(), Fail> {
 #[test]
 fn reels_are_compared(rt: HostRuntime) -> Result<(), Fail> {
     let alloc = rt.alloc();
-    let tapes = tapes(alloc)?;
-    let found = accepted(
-        alloc,
-        INSTALL.as_bytes(),
-        tapes.as_slice(),
-        &install(alloc)?,
-    )?;
+    let guard = guard(alloc)?;
+    let found = accepted(alloc, INSTALL.as_bytes(), &guard, &install(alloc)?)?;
     assert!(rt; found.len() == 2);
     let machine = id("M1")?;
     let board = id("B1")?;
@@ -140,7 +129,7 @@ fn reels_are_compared(rt: HostRuntime) -> Result<(), Fail> {
     };
     assert!(rt; is_finding(&found[1], other, "C3"));
     let text = "{\"MessageBody\":{\"MachineReels\":[\"K1\",\"\",null,null]}}";
-    let found = accepted(alloc, text.as_bytes(), tapes.as_slice(), &install(alloc)?)?;
+    let found = accepted(alloc, text.as_bytes(), &guard, &install(alloc)?)?;
     assert!(rt; found.len() == 1);
     assert!(rt; is_finding(&found[0], Matter::Uncompared { machine, board }, text));
     Ok(())
@@ -149,19 +138,14 @@ fn reels_are_compared(rt: HostRuntime) -> Result<(), Fail> {
 #[test]
 fn rows_of_findings_are_read_again(rt: HostRuntime) -> Result<(), Fail> {
     let alloc = rt.alloc();
-    let tapes = tapes(alloc)?;
+    let guard = guard(alloc)?;
     let mut reading = Reading::new(9);
     let sender = Sender {
         source: Some(id("S")?),
         uid: Some(id("v")?),
     };
     let mut number = 0;
-    for finding in accepted(
-        alloc,
-        INSTALL.as_bytes(),
-        tapes.as_slice(),
-        &install(alloc)?,
-    )? {
+    for finding in accepted(alloc, INSTALL.as_bytes(), &guard, &install(alloc)?)? {
         number = if number < 9 { number + 1 } else { number };
         let place = Place {
             number,

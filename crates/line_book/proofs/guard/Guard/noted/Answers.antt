@@ -13,6 +13,7 @@ returns c = λ H B is next.
     record {
       placed = placed-noted H B n is.placed next;
       running = is.running;
+      tapes = is.tapes;
       setup = record {
         alternates = is.setup.alternates;
         holds = λ stock. c.in_ok-noted.ensures stock
