@@ -83,7 +83,7 @@ def stopped(story: Story, kind: str, fail: str, seen: Seen, got: Got | None = No
     got = got or story.failed(fail)
     judge(story, got, got.files, seen, kind not in ("memory", "input"))
     judge_status(story, got, kind)
-    is_once = story.recovers and is_refused_once(fail)
+    is_once = is_refused_once(fail)
     if is_once and sum(map(story.is_unavailable, got.answers)) > 1:
         raise Found(
             f"memory was refused once, and more than one answer is Unavailable: {got.answers!r}"

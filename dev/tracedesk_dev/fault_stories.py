@@ -140,8 +140,6 @@ class Story:
         self.judged: set[Any] = set()
         self.lock = threading.Lock()
 
-    recovers = True  # from memory that was refused once, at the next request
-
     def process(
         self, room: pathlib.Path, words: list[str], env: Env = None, **how: Any
     ) -> subprocess.Popen[bytes]:
@@ -409,13 +407,7 @@ class Served(Story):
 
 
 class ServedLine(Served):
-    """The same by `tracedesk-line serve`. If memory is refused while it takes an entry in, it has
-    to be started again: what the book is asked for is Unavailable until then (docs/line.md).
-    """
-
-    recovers = False
+    """The same by `tracedesk-line serve`, whose book has a fault of its own."""
 
     def faults(self, kind: str) -> list[Any]:
-        words = "tracedesk-line: a word of the command line is not UTF-8\n"
-        of_words = [(words, 2)] if kind == "memory" else []  # while the words are read
-        return [*super().faults(kind), ("tracedesk: book Unavailable\n", 3), *of_words]
+        return [*super().faults(kind), ("tracedesk: book Unavailable\n", 3)]

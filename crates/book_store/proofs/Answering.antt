@@ -1,7 +1,8 @@
 -- What both lists keep of a message that is answered.
 use Rattle.desk_types.proofs.Common.{[], ◌++◌, ◌<◌, ◌||◌, ◌∙◌, ◌∷◌, ◌≡◌, accept, after_command, ap, append-nil}
-use Rattle.desk_types.proofs.Common.{arith, Bool, Err, false, if◌then◌else◌, is_some, length, List, MatchBool, nat_tests}
-use Rattle.desk_types.proofs.Common.{None, Ok, Option, refl, reply_to, Result, Some, subst, sym, true, unwrap_or, ℕ}
+use Rattle.desk_types.proofs.Common.{arith, Bool, change_of, Err, false, if◌then◌else◌, is_some, length, List}
+use Rattle.desk_types.proofs.Common.{MatchBool, nat_lt, nat_tests, None, Ok, Option, refl, reply_to, Result, Some}
+use Rattle.desk_types.proofs.Common.{subst, sym, tape_of, true, unwrap_or, ℕ}
 use Rattle.desk_types.specs.declared.change.Change.{Change}
 use Rattle.desk_types.specs.declared.answer.Reply.TheVariants as reply
 use Rattle.desk_types.specs.{Desk.IsChange, History.History}
@@ -15,17 +16,23 @@ use Rattle.cfx_profile.specs.declared.message.Said.TheVariants.{Asked, Ignored}
 use Rattle.desk_feed.specs.declared.message.AnswerText.{AnswerText}
 use Rattle.line_book.specs.declared.note.Note.{Note}
 use Rattle.line_book.specs.declared.reading.Reading.{Reading}
-use Rattle.line_book.specs.Undecided.{is_known}
+use Rattle.line_book.specs.declared.row.BookRow.{BookRow}
+use Rattle.line_book.specs.{Rows.first_reading, Undecided.is_known}
 use Rattle.line_book_store.specs.Checking.{AreRead}
 use Rattle.line_entries.specs.declared.row.Sender.{Sender}
+use Rattle.line_members.proofs.Entries.{of_change}
+use Rattle.line_members.specs.Accepted.{accepted}
+use Rattle.line_members.specs.declared.finding.Finding.{Finding}
 use Rattle.line_schema.proofs.StandsAfter.{accepted_to, answered_as}
 use Rattle.line_schema.specs.{Stands.Kept, Verdict.IsAccepted}
 use Rattle.line_schema.specs.declared.unavailable.Unavailable.{Unavailable as Fault}
+use Rattle.book_store.proofs.AddingFindings.{adds_findings}
 use Rattle.book_store.specs.Accepted.{KeepsCommand, with_both}
 use Rattle.book_store.specs.Answered.{AnswersCommand, AnswersSaid, command_told, fault_told, ignored_told, KeepsRefusal}
 use Rattle.book_store.specs.Answered.{with_history}
+use Rattle.book_store.specs.Findings.{AddsFindings, AreRowsOf, findings_of}
 use Rattle.book_store.specs.Lists.{Lists}
-use Rattle.book_store.specs.Noted.{AddsEntry, fault_entry, KeepsAny, nobody, refusal_entry, sender_of}
+use Rattle.book_store.specs.Noted.{AddsEntry, fault_entry, KeepsAny, nobody, place_in, refusal_entry, sender_of}
 
 -- ---- a command that isn't accepted
 
@@ -118,6 +125,28 @@ command_accepted L s change before answer M is accepts =
 
 -- ---- a message
 
+-- It has no findings if the history stays.
+none_found : (L : Lists) (told : List ℕ) (s : Stamped)
+    → command_after Two L.kept.greatest L.kept.history s ≡ L.kept.history
+    → findings_of Two L.kept.greatest L.kept.history told s ≡ []
+none_found L told s stays =
+    let H = L.kept.history in
+    let all = accepted told (tape_of H) (change_of H s) in
+    let same : nat_lt (length H) (length H) ≡ false = grind (arith, nat_tests) in
+    ap (λ (G : History). if nat_lt (length H) (length G) then all else []) stays
+    ∙ ap (λ (b : Bool). if b then all else []) same
+
+all_found : (L : Lists) (told : List ℕ) (s s' : Stamped)
+    → accept L.kept.history s' ≡ command_after Two L.kept.greatest L.kept.history s
+    → findings_of Two L.kept.greatest L.kept.history told s
+    ≡ accepted told (tape_of L.kept.history) (change_of L.kept.history s)
+all_found L told s s' grows =
+    let H = L.kept.history in
+    let all = accepted told (tape_of H) (change_of H s) in
+    let more : nat_lt (length H) (length (accept H s')) ≡ true = grind (arith, nat_tests) in
+    ap (λ (G : History). if nat_lt (length H) (length G) then all else []) (sym grows)
+    ∙ ap (λ (b : Bool). if b then all else []) more
+
 -- A refused command.
 pub refusal_answered : (L : Lists) (told : List ℕ) (s : Stamped) (answer : Answer) (text : AnswerText) (N : Lists)
     → answer ≡ command_answer Two L.kept.greatest L.kept.history s
@@ -128,6 +157,8 @@ refusal_answered L told s answer text N is stays keeps =
       keeps.0 ∙ ap (command_told s) is,
       N,
       entry,
+      N,
+      subst (λ (fs : List Finding). AddsFindings N fs (sender_of s) N) (sym (none_found L told s stays)) refl,
       same_history L (sender_of s) told N (command_after Two L.kept.greatest L.kept.history s)
           (refusal_entry L s answer) keeps.1 stays,
     )
@@ -140,19 +171,39 @@ fault_answered L told fault text N is keeps = (
   is,
   N,
   keeps,
+  N,
+  refl,
   same_history L nobody told N L.kept.history (fault_entry L told fault) keeps refl,
 )
 
--- An accepted command.
-pub asked_accepted : (L : Lists) (told : List ℕ) (s : Stamped) (change : Change) (text : AnswerText) (M : Lists)
-    → IsAccepted L.kept s change → AnswersCommand L s text M → AnswersSaid L told (Ok (Asked s)) text M
-asked_accepted L told s change text M is answers = (
-  answers.0,
-  L,
-  subst (λ (a : Answer). KeepsAny L (refusal_entry L s a) (sender_of s) told L)
-      (sym (accepted_is L.kept s change is)) refl,
-  answers.1,
-)
+-- An accepted command, with the rows of its findings.
+pub heard_accepted : (L : Lists) (told : List ℕ) (s : Stamped) (change : Change) (before : Reading)
+    (rows : List BookRow) (answer : Answer) (M : Lists) → IsAccepted L.kept s change
+    → AreRead (first_reading (length L.kept.history)) L.rows L.notes before
+    → AreRowsOf (place_in L) (accepted told (tape_of L.kept.history) change) (sender_of change.stamped) rows
+    → KeepsCommand L before change rows answer M → AnswersSaid L told (Ok (Asked s)) (command_told s answer) M
+heard_accepted L told s change before rows answer M is was are accepts =
+    let H = L.kept.history in
+    let r : Result Answer Fault = Ok answer in
+    let after : accept H change.stamped ≡ after_command Two H s = accepted_to (λ (G : History). accept H change.stamped
+    ≡ G) r H s change is.is refl in
+    let history : accept H change.stamped ≡ command_after Two L.kept.greatest H s = after
+    ∙ sym (new_after L.kept s is.first is.room) in
+    let O : Lists = record L { rows = L.rows ++ rows; notes = L.notes ++ accepts.notes } in
+    let own : AreRowsOf (place_in L) (accepted told (tape_of H) (change_of H s)) (sender_of s) rows = subst
+    (λ (c : Change). AreRowsOf (place_in L) (accepted told (tape_of H) c) (sender_of c.stamped) rows) is.is.value
+    are in
+    let adds = adds_findings (sender_of s) L before accepts.after (accepted told (tape_of H) (change_of H s)) rows
+    accepts.notes was (of_change told (tape_of H) (change_of H s)) own accepts.are.read in (
+      ap (command_told s) (accepts.answer ∙ sym (accepted_is L.kept s change is)),
+      L,
+      subst (λ (a : Answer). KeepsAny L (refusal_entry L s a) (sender_of s) told L)
+          (sym (accepted_is L.kept s change is)) refl,
+      O,
+      subst (λ (fs : List Finding). AddsFindings L fs (sender_of s) O)
+          (sym (all_found L told s change.stamped history)) adds,
+      accepts.lists ∙ ap (with_history O) history,
+    )
 
 -- The entry that was made is kept.
 pub refusal_kept : (L : Lists) (told : List ℕ) (s : Stamped) (answer : Answer) (entry : Option Note) (N : Lists)
@@ -169,7 +220,7 @@ fault_kept L told fault entry text N is same keeps = fault_answered L told fault
 
 pub ignored_answered : (L : Lists) (told name : List ℕ) (text : AnswerText) → text ≡ ignored_told name
     → AnswersSaid L told (Ok (Ignored name)) text L
-ignored_answered L told name text is = (is, L, refl, refl)
+ignored_answered L told name text is = (is, L, refl, L, refl, refl)
 
 -- The answer to its content is that to the message.
 pub said_answered : (L : Lists) (told : List ℕ) (said other : Result Said MessageFault) (text : AnswerText) (M : Lists)

@@ -1,4 +1,4 @@
--- What a call leaves of both lists, from what the calls in it leave.
+-- Both lists after a call, by the calls that it makes.
 use Rattle.desk_types.proofs.Common.{◌≡◌, Basis, Err, inl, inr, Ok, refl, Result, subst, sym}
 use Rattle.line_tables.proofs.Common.{Ghosts, Trees}
 use Rattle.book_store.specs.Ended.{Ends}
@@ -23,7 +23,7 @@ module _ {S D : Type 0} (g : Ghosts S) (F : D → Basis → Type 0) (old new : B
       → Ends g F old new L (Err e) Are
   ends_failed e Are nothing stands = record { ok = tt; err = stands; crash = λ trees may. inl (nothing trees may) }
 
-  -- The same, told by another result.
+  -- The same, with another result.
   pub ends_by : {A B E G : Type 0} (f : A → B) (a : A) (Are : A → Lists → Type 0) (Then : B → Lists → Type 0) →
       ((x : A) (M : Lists) → Are x M → Then (f x) M) → Ends {E = E} g F old new L (Ok a) Are
       → Ends {E = G} g F old new L (Ok (f a)) Then

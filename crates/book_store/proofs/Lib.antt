@@ -1,9 +1,11 @@
 pub mod Accepting
+pub mod AddingFindings
 pub mod Answering
 pub mod Cleaning
 pub mod Ending
 pub mod Entering
 pub mod Finding
+pub mod Guarding
 pub mod InTurn
 pub mod Loading
 pub mod Noting

@@ -16,6 +16,7 @@ use Rattle.desk_feed.specs.Messages.{after_heard, answer_asked, answer_heard}
 use Rattle.desk_feed.specs.Verdicts.{command_verdict, message_verdict}
 use Rattle.line_book.specs.declared.note.Note.{Note}
 use Rattle.line_entries.specs.declared.row.Sender.{Sender}
+use Rattle.book_store.specs.Findings.{AddsFindings, findings_in}
 use Rattle.book_store.specs.Lists.{Lists}
 use Rattle.book_store.specs.Noted.{KeepsAny, fault_entry, nobody, refusal_entry, sender_of}
 
@@ -60,11 +61,13 @@ message_sender (Ok (Ignored name)) = nobody
 message_sender (Ok (Asked s)) = sender_of s
 message_sender (Err fault) = nobody
 
--- The answer to a message's content, its entry, and the history after it.
+-- The answer to a message's content, its entry or those of its findings, and the history after it.
 abbrev pub AnswersSaid : Lists → List ℕ → Result Said MessageFault → AnswerText → Lists → Type 0
 AnswersSaid L told said text M = (text ≡ answer_heard Two L.kept.greatest L.kept.history said)
     × (N : Lists) × KeepsAny L (message_entry L told said) (message_sender said) told N
-    × (M ≡ with_history N (after_heard Two L.kept.greatest L.kept.history said))
+    × (O : Lists) × AddsFindings N (findings_in Two L.kept.greatest L.kept.history told said)
+    (message_sender said) O
+    × (M ≡ with_history O (after_heard Two L.kept.greatest L.kept.history said))
 
 -- The same of a message.
 abbrev pub AnswersMessage : Lists → List ℕ → AnswerText → Lists → Type 0

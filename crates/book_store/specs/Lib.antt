@@ -2,6 +2,7 @@ pub mod Accepted
 pub mod Answered
 pub mod Ended
 pub mod Entries
+pub mod Findings
 pub mod Lent
 pub mod Lists
 pub mod Noted

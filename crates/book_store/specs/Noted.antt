@@ -1,4 +1,4 @@
--- The entries of the book, and what it keeps of one.
+-- The entries of the book, and the rows that it adds.
 use Rattle.std.specs.Prelude.{◌≡◌, ◌+◌, ◌<◌, ℕ, List, MatchBool, None, Option, Some, length, option_map}
 use Rattle.desk_types.specs.declared.command.Stamped.{Stamped}
 use Rattle.desk_types.specs.StoredText.{stored_text}
@@ -40,19 +40,19 @@ nobody = record { source = None; uid = None }
 abbrev pub sender_of : Stamped → Sender
 sender_of s = record { source = Some s.source; uid = Some s.uid }
 
--- The entry stands in the next place, and these words tell it. A decision is about an earlier one.
+-- The entry has the next place, and is read back from these words. A decision is about an earlier one.
 pub record IsNextEntry (L : Lists) (told : List ℕ) (n : Note) : Type 0 where
   pub placed : n ≡ note_at (place_in L) n.matter n.text
   pub earlier : (about : ℕ) → n.matter ≡ Decision about → (0 < about) × (about < n.number)
   pub tells : IsToldBy told n
 
--- ---- what the book keeps
+-- ---- rows
 
--- The book has this entry more. Its row has what the sender said.
+-- The book has one more entry. Its row has the sender's words.
 abbrev pub AddsEntry : Lists → Note → Sender → List ℕ → Lists → Type 0
 AddsEntry L n sender told M = (row : BookRow) × IsRowOf n sender told row × (M ≡ with_note L row n)
 
--- What still stands in the book isn't written again.
+-- An entry that is in the book and not closed isn't written again.
 abbrev pub Keeps : Lists → Note → Sender → List ℕ → Lists → Type 0
 Keeps L n sender told M =
     MatchBool (is_known L.kept.history L.notes n) (M ≡ L) (AddsEntry L n sender told M)

@@ -2,7 +2,9 @@
 use Rattle.std.specs.Prelude.{◌≡◌, ◌⊎◌, ◌+◌, nat_le, ℕ, IsTrue, List, [], ◌∷◌, length, if◌then◌else◌}
 use Rattle.sqlite.specs.State.{State}
 use Rattle.desk_types.specs.History.{History}
+use Rattle.line_book.specs.declared.guard.Guard.{Guard}
 use Rattle.line_book.specs.declared.note.Note.{Note}
+use Rattle.line_book.specs.declared.reading.Reading.{Reading}
 use Rattle.line_book.specs.declared.row.BookRow.{BookRow}
 use Rattle.line_book.specs.Guard.{IsGuard}
 use Rattle.line_book.specs.Rows.{first_reading}
@@ -26,6 +28,11 @@ pub record IsRestored (L : Kept) (Clean : Type 0) (old : State) (r : Restored) :
   pub read : AreRead (first_reading (length L.history)) rows notes r.reading
   pub all : Clean → ReadsAll old rows
   pub guard : Clean → IsTrue L.own → IsGuard L.history notes r.guard
+
+-- The guard is that of both lists, if the disk is honest and the tables are the store's own.
+abbrev pub GuardsFile : Kept → Type 0 → State → Guard → Type 0
+GuardsFile L Clean old guard =
+    (reading : Reading) × IsRestored L Clean old (record { guard = guard; reading = reading })
 
 -- Memory was refused or the database failed, or this is the first number whose entry is missing, can't
 -- be read, or can't follow those before it.

@@ -1,6 +1,6 @@
 //! The store of both lists.
 
-ghost use Rattle.std.specs.Prelude.{◌≡◌, ◌↔◌, [], IfOk, IsTrue, OnOk};
+ghost use Rattle.std.specs.Prelude.{◌≡◌, ◌↔◌, [], IfOk, IsTrue, OnOk, is_some};
 ghost use Rattle.std.specs.Borrow.{sem};
 ghost use Rattle.sqlite.specs.State.{Survives};
 ghost use Rattle.line_book.specs.Causes.{causes};
@@ -11,6 +11,8 @@ ghost use Rattle.book_store.specs.Lists.{ForLists, Serves, StandsFor, book_state
 mod accepting;
 mod answering;
 mod entries;
+mod findings;
+mod guarding;
 mod noting;
 mod opening;
 mod refusing;
@@ -58,16 +60,20 @@ impl<S: Alter, D: KeepsRows + Drop> BookStore<S, D> {
         &mut self.store
     }
 
-    /// Loads the desk if it isn't loaded. Both lists stay.
+    /// Loads the desk if it isn't loaded, and makes the guard again if memory was refused when it took in a
+    /// command or an entry. Both lists stay.
     pub fn ready(&mut self) -> Result<(), Unavailable>
         requires serves { Serves S.Store D.Stands self.old }
         ensures loaded { OnOk result (IsTrue (has_desk self.new.store)) }
+        // So a refusal of memory is over when there is memory again.
+        ensures guarded { OnOk result (IsTrue (is_some self.new.guard)) }
         ensures stands { ForLists S.Store D.Stands self.old self.new
             (StandsFor S.Store D.Stands self.new) }
         ensures survives { Survives (book_state S.Store self.old) (book_state S.Store self.new)
             (λ _. ⊥) }
         ensures serves { Serves S.Store D.Stands self.new }
     {
+        self.make_guard()?;
         self.store.ready()
     }
 

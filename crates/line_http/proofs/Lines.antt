@@ -24,6 +24,7 @@ use Rattle.line_entries.specs.Columns.{columns_of, kind_of, of_number}
 use Rattle.line_entries.specs.Rows.{IsRowOf}
 use Rattle.line_entries.specs.Told.{told_text}
 use Rattle.line_entries.specs.declared.row.Sender.{Sender}
+use Rattle.line_members.specs.declared.finding.Finding.{Finding}
 use Rattle.line_book.specs.Undecided.{is_known}
 use Rattle.line_schema.specs.Stands.{Kept, ledger}
 use Rattle.line_schema.specs.declared.unavailable.Unavailable.{Unavailable as Fault}
@@ -35,13 +36,14 @@ use Rattle.http_stream.specs.declared.response.Response.{Response}
 use Rattle.book_store.specs.declared.store.BookStore.{BookStore}
 use Rattle.book_store.specs.Ended.{Ends, with_note}
 use Rattle.book_store.specs.Answered.{AnswersCommand, AnswersMessage, message_entry, message_sender}
-use Rattle.book_store.specs.Noted.{AddsEntry, KeepsAny, nobody}
-use Rattle.book_store.specs.Lists.{book_state, Lists, StandsFor}
+use Rattle.book_store.specs.Findings.{AddsFindings, finding_note}
+use Rattle.book_store.specs.Noted.{AddsEntry, KeepsAny, nobody, place_in}
+use Rattle.book_store.specs.Lists.{book_state, ForLists, Lists, StandsFor}
 use Rattle.book_store.specs.Said.{said_entry, Says}
 use Rattle.line_http.specs.Gives.{Gives, GivesOne}
 use Rattle.line_http.specs.Desk.{desk_asked, with_outcome}
 use Rattle.line_http.specs.Line.{column_text, Line, line_of, Represents, with_entry, with_saying, written}
-use Rattle.line_http.specs.Messages.{heard, message_entry as line_entry, noted}
+use Rattle.line_http.specs.Messages.{findings_by, heard, message_entry as line_entry, noted, with_findings}
 use Rattle.line_http.specs.Rule.{body_status, is_memory, leaving, said_outcome}
 
 -- ---- one entry more
@@ -107,6 +109,15 @@ kept_entry L N (Some n) sender told keeps = by (is_known L.kept.history L.notes 
     by false (row, is, same) =
         (ap line_of same ∙ with_row L n sender told row is, ap (λ (M : Lists). M.kept) same)
 
+-- The lists with the entries of findings. The desk stays.
+found_line : (L M : Lists) (fs : List Finding) (sender : Sender) → AddsFindings L fs sender M
+    → (line_of M ≡ with_findings (line_of L) fs sender) × (M.kept ≡ L.kept)
+found_line L M [] sender same = (ap line_of same, ap (λ (K : Lists). K.kept) same)
+found_line L M (f ∷ fs) sender (N, (row, is, same), adds) =
+    let others = found_line N M fs sender adds in
+    let one = ap line_of same ∙ with_row L (finding_note (place_in L) f) sender f.told row is in
+    (others.0 ∙ ap (λ (l : Line). with_findings l fs sender) one, others.1 ∙ ap (λ (K : Lists). K.kept) same)
+
 -- It is the same entry.
 same_entry : (L : Lists) (told : List ℕ) (said : Result Said MessageFault)
     → message_entry L told said ≡ line_entry (line_of L) told said
@@ -117,15 +128,21 @@ same_entry L told (Err fault) = refl
 -- The lists after a message.
 pub heard_line : (L M : Lists) (told : List ℕ) (text : AnswerText) → AnswersMessage L told text M
     → (line_of M ≡ (desk_asked (line_of L) told (Ok asks.Message)).after) × (M.kept.own ≡ L.kept.own)
-heard_line L M told text (is, N, keeps, same) =
+heard_line L M told text (is, N, keeps, O, adds, same) =
     let H = list_after Two L.kept.greatest L.kept.history told in
-    let entry = kept_entry L N (message_entry L told (said_in told)) (message_sender (said_in told)) told keeps in
-    let after : line_of M ≡ record (line_of N) { desk = record (ledger N.kept) { history = H } } = ap line_of same in
-    let noted_is : line_of N ≡ heard (line_of L) told
-    = entry.0 ∙ ap (noted (line_of L) (message_sender (said_in told)) told) (same_entry L told (said_in told)) in (
-      after ∙ ap (λ (l : Line). record l { desk = record (ledger N.kept) { history = H } }) noted_is
-          ∙ ap (λ (K : Kept). record (heard (line_of L) told) { desk = record (ledger K) { history = H } }) entry.1,
-      ap (λ (K : Lists). K.kept.own) same ∙ ap (λ (K : Kept). K.own) entry.1,
+    let sender = message_sender (said_in told) in
+    let fs = findings_by (ledger L.kept) told in
+    let entry = kept_entry L N (message_entry L told (said_in told)) sender told keeps in
+    let found = found_line N O fs sender adds in
+    let kept = found.1 ∙ entry.1 in
+    let after : line_of M ≡ record (line_of O) { desk = record (ledger O.kept) { history = H } } = ap line_of same in
+    let heard_is : line_of O ≡ heard (line_of L) told
+    = found.0 ∙ ap (λ (l : Line). with_findings l fs sender) entry.0
+    ∙ ap (λ (o : Option Note). with_findings (noted (line_of L) sender told o) fs sender)
+    (same_entry L told (said_in told)) in (
+      after ∙ ap (λ (l : Line). record l { desk = record (ledger O.kept) { history = H } }) heard_is
+          ∙ ap (λ (K : Kept). record (heard (line_of L) told) { desk = record (ledger K) { history = H } }) kept,
+      ap (λ (K : Lists). K.kept.own) same ∙ ap (λ (K : Kept). K.own) kept,
     )
 
 -- The lists after a command without a message.
@@ -186,6 +203,14 @@ module _ {S D : Type 0} (g : Ghosts S) (F : D → Basis → Type 0) (old new : B
       → Gives g F old new r o
   failed r e o is stays = subst (λ (r : Result Response Fault). Gives g F old new r o) (sym is)
       (λ line was clean. (tt, stays line was clean))
+
+-- The answer of a store that first was made ready.
+pub gives_later : {S D : Type 0} (g : Ghosts S) (F : D → Basis → Type 0) (old mid new : BookStore S D)
+    (r : Result Response Fault) (o : Line → Outcome Line) → ForLists g F old mid (StandsFor g F mid)
+    → (HasCleanDisk (book_state g new) → HasCleanDisk (book_state g mid)) → Gives g F mid new r o
+    → Gives g F old new r o
+gives_later g F old mid new r o stands early gives line was clean =
+    gives line (still g F old mid line was (stands was.lists was.stands (early clean) was.own)) clean
 
 -- What is true of a lent store is true of it when it comes back.
 pub come_back : {S D : Type 0} (g : Ghosts S) (F : D → Basis → Type 0) (old lent new : BookStore S D)

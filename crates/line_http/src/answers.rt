@@ -23,8 +23,29 @@ use sqlite::Alter;
 use state_rows::KeepsRows;
 use std::alloc::Global;
 
-/// Answers a request: to one of the line's own routes, or else to the desk.
+/// Answers a request: to one of the line's own routes, or else to the desk. First it loads what the store dropped when
+/// memory was refused.
 pub fn answer_request<S: Alter, D: KeepsRows + Drop>(
+    alloc: Global,
+    store: &mut BookStore<S, D>,
+    routes: Option<&RouteTable>,
+    method: &[u8],
+    target: &[u8],
+    body: &[u8],
+) -> Result<Response, Unavailable>
+    requires serves { Serves S.Store D.Stands store.old }
+    ensures gives { Gives S.Store D.Stands store.old store.new result (λ line. line_rule line
+        (record { method = method.now; target = target.now; body = body.now })) }
+    ensures clean { HasCleanDisk (book_state S.Store store.new)
+        → HasCleanDisk (book_state S.Store store.old) }
+    ensures serves { Serves S.Store D.Stands store.new }
+{
+    store.ready()?;
+    answer_ready(alloc, store, routes, method, target, body)
+}
+
+/// The same by a store that is ready.
+fn answer_ready<S: Alter, D: KeepsRows + Drop>(
     alloc: Global,
     store: &mut BookStore<S, D>,
     routes: Option<&RouteTable>,

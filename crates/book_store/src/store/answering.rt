@@ -12,6 +12,7 @@ ghost use Rattle.book_store.specs.Ended.{Ends};
 ghost use Rattle.book_store.specs.Lists.{ForLists, Serves, StandsFor, book_state};
 
 use crate::store::BookStore;
+use crate::store::findings::sender_of;
 use crate::texts::{accepted_told, command_told, fault_told, ignored_told};
 use cfx_profile::{MessageFault, Said, read_message};
 use desk_answers::Answer;
@@ -24,7 +25,7 @@ use state_rows::KeepsRows;
 
 impl<S: Alter, D: KeepsRows + Drop> BookStore<S, D> {
     /// Answers a message. The entry of one that is refused or faulty is written, unless the book has it
-    /// in an entry that still stands. After Unavailable both lists are as before, and the message may be
+    /// in an entry that isn't closed. An accepted one has an entry for each finding in it. After Unavailable both lists are as before, and the message may be
     /// sent again.
     pub fn answer(&mut self, told: &[u8]) -> Result<AnswerText, Unavailable>
         requires serves { Serves S.Store D.Stands self.old }
@@ -72,7 +73,7 @@ impl<S: Alter, D: KeepsRows + Drop> BookStore<S, D> {
     {
         match self.judge(stamped)? {
             Verdict::Answered(answer) => self.answer_final(told, stamped, answer),
-            Verdict::Accepts(change) => self.accept_alone(change),
+            Verdict::Accepts(change) => self.accept_heard(told, change),
         }
     }
 
@@ -109,12 +110,26 @@ impl<S: Alter, D: KeepsRows + Drop> BookStore<S, D> {
     {
         let entry = self.refusal_entry(stamped, &answer)?;
         let text = command_told(self.alloc, stamped, answer)?;
-        let sender = Sender {
-            source: Some(stamped.source),
-            uid: Some(stamped.uid),
-        };
-        self.keep(&entry, &sender, told)?;
+        self.keep(&entry, &sender_of(stamped), told)?;
         Ok(text)
+    }
+
+    /// Accepts the change of a message, with an entry for each finding in it, and returns its answer as a text.
+    fn accept_heard(&mut self, told: &[u8], change: Change) -> Result<AnswerText, Unavailable>
+        requires serves { Serves S.Store D.Stands self.old }
+        requires ready { CanCommit D.Stands self.old.store change }
+        ensures accepted { ForLists S.Store D.Stands self.old self.new (λ L. (s : Request)
+            → IsAccepted L.kept s change → Ends S.Store D.Stands self.old self.new L result
+            (AnswersSaid L told.now (Ok (Asked s)))) }
+        ensures clean { HasCleanDisk (book_state S.Store self.new)
+            → HasCleanDisk (book_state S.Store self.old) }
+        ensures serves { Serves S.Store D.Stands self.new }
+    {
+        let rows = self.finding_rows(told, &change)?;
+        match self.accept(change, rows.as_slice()) {
+            Ok(answer) => accepted_told(answer),
+            Err(_) => Err(Unavailable),
+        }
     }
 
     /// Accepts a change with no entry, and returns its answer as a text.

@@ -61,10 +61,10 @@ impl<S: Alter, D: KeepsRows + Drop> BookStore<S, D> {
         }
     }
 
-    /// Writes the next entry, with what the sender said.
+    /// Writes the next entry, with the sender's words.
     pub fn write(&mut self, note: &Note, sender: &Sender, told: &[u8]) -> Result<(), Unavailable>
         requires serves { Serves S.Store D.Stands self.old }
-        // What is read from its row is this entry.
+        // Its row is read back as this entry.
         ensures written { ForLists S.Store D.Stands self.old self.new (λ L.
             IsNextEntry L told.now note.now
             → Ends S.Store D.Stands self.old self.new L result
@@ -80,7 +80,7 @@ impl<S: Alter, D: KeepsRows + Drop> BookStore<S, D> {
         }
     }
 
-    /// Writes the next entry if there is one, unless the book has it in an entry that still stands.
+    /// Writes the next entry if there is one, unless the book has it in an entry that isn't closed.
     pub fn keep(
         &mut self,
         entry: &Option<Note>,

@@ -1,7 +1,7 @@
 use Rattle.desk_types.proofs.Common.{err_from_is_err_and, Ok, subst}
 use Rattle.cfx_profile.specs.declared.message.Said.TheVariants.{Asked}
 use Rattle.line_schema.specs.Verdict.{IsVerdict}
-use Rattle.book_store.proofs.Answering.{asked_accepted, refusal_answered}
+use Rattle.book_store.proofs.Answering.{refusal_answered}
 use Rattle.book_store.proofs.Ending.{ends_as}
 use Rattle.book_store.proofs.Loading.{ends_later, failed_later}
 use Rattle.book_store.specs.Answered.{AnswersSaid}
@@ -28,11 +28,8 @@ returns-in-Answered-clause-answered g c said L was clean own =
 pub returns-in-Accepts-clause-answered : goal.returns-in-Accepts-clause-answered
 returns-in-Accepts-clause-answered g c said L was clean own =
     let s = c.args.stamped.now in
-    let told = c.args.told.now in
-    let early = c.accept_alone.ensures.clean clean in
+    let early = c.accept_heard.ensures.clean clean in
     let verdict = subst (IsVerdict L.kept s) c.in-Accepts.is (c.in_ok-answer.ensures.verdict L was early own) in
     ends_later g.S.Store g.D.Desk.Stands c.args.self.now c.judge.new.self c.judge.ensures.stands
-    c.judge.ensures.survives L was early own _ c.accept_alone.result _
-    (λ stands. ends_as g.S.Store g.D.Desk.Stands c.judge.new.self _ L c.accept_alone.result _
-    (AnswersSaid L told (Ok (Asked s))) (λ text M it. asked_accepted L told s c.in-Accepts.change text M verdict it)
-    (c.accept_alone.ensures.accepted L stands clean own s verdict))
+    c.judge.ensures.survives L was early own _ c.accept_heard.result _
+    (λ stands. c.accept_heard.ensures.accepted L stands clean own s verdict)
