@@ -10,11 +10,11 @@ use feeder_state::StateDesk;
 use sqlite::{Connection, FileStore, Files};
 use sqlite_disk::Disk;
 
-/// What is open of a line's file.
+/// The open part of a line's file.
 pub enum LineLeft<D: Disk + Drop> {
     /// Nothing was opened.
     Nothing,
-    /// The files, in which no database could be opened.
+    /// The files. No database could be opened in them.
     Unread(Files<D>),
     /// The database of a file that was refused.
     Refused(Connection<FileStore<D>>),
@@ -22,7 +22,7 @@ pub enum LineLeft<D: Disk + Drop> {
     Lists(BookStore<FileStore<D>, StateDesk>),
 }
 
-/// Closes what is open of a line's file. All commits are then in it, without its log. The files are returned even if
+/// Closes the open part of a line's file. All commits are then in it, without its log. The files are returned even if
 /// they could not be closed.
 pub fn close_line<D: Disk + Drop>(left: LineLeft<D>) -> Result<Option<Files<D>>, Option<Files<D>>>
     ensures ok { IfOk result (ClosesLists whole left) }

@@ -18,7 +18,7 @@ use Rattle.line_file.specs.declared.store.Line.{Line}
 use Rattle.line_file.specs.Files.{Closes, FindsFault, FindsLine, StillHold}
 use Rattle.line_file.specs.Lines.{ReadsFault, ReadsLine}
 use Rattle.line_file.specs.Lists.{IsSound}
-use Rattle.line_file.proofs.Found.{fault-of, line-in}
+use Rattle.line_file.proofs.Found.{fault-of, line-in, named-in}
 use Rattle.line_file.proofs.Kept.{kept-left, kept-whole}
 
 module _ {F : Type 0} {g : disk.Ghosts F} (image : Image) (first conn : Held (FileStore F g)) (f : Files F)
@@ -36,7 +36,10 @@ module _ {F : Type 0} {g : disk.Ghosts F} (image : Image) (first conn : Held (Fi
       → IfOk told (ReadsLine StandsFor (IsSound (file_state conn)) (file_state first))
       → (AreClean g f.log f.db → IsCopied conn f) → IfOk told (FindsLine StandsFor g image f)
   by-line StandsFor (Ok line) is copies =
-      λ clean place. line-in image first conn f since (copies clean) place StandsFor line is
+      λ clean. let copied = copies clean in (
+        named-in image first conn f since copied StandsFor line is,
+        λ place. line-in image first conn f since copied place StandsFor line is,
+      )
   by-line StandsFor (Err fault) is copies = tt
 
   pub finds-line : {D : Type 0} (StandsFor : D → Basis → Type 0) (line told : Result (Line D) ListFault)

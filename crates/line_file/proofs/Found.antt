@@ -1,4 +1,4 @@
--- What was read of files, by what they held when they were opened.
+-- The line or the fault of files, by their contents at the opening.
 use Rattle.desk_types.proofs.Common.{◌∙◌, ◌≡◌, ap, arith, Basis, Err, IfErr, IfOk, inl, inr, length, Ok, Result, subst, sym, true, ℕ}
 use Rattle.line_tables.proofs.Common.{Database, file_state, HasCleanDisk, Held, is_ours, IsOurs, Two}
 use Rattle.desk_file.proofs.RefusedFiles.{fault_in}
@@ -19,14 +19,14 @@ use Rattle.line_tables.specs.Line.{alone as only-ours}
 use Rattle.line_file.specs.declared.fault.ListFault.{ListFault}
 use Rattle.line_file.specs.declared.fault.ListFault.TheVariants.{History as AtHistory, Book as AtBook}
 use Rattle.line_file.specs.declared.store.Line.{Line}
-use Rattle.line_file.specs.Files.{HasListsFirst, IsFaultOf, IsLineIn}
+use Rattle.line_file.specs.Files.{HasListsFirst, IsFaultOf, IsLineIn, IsNamedIn}
 use Rattle.line_book.specs.Rows.{first_reading}
 use Rattle.line_book_store.proofs.ReadEntries.{read-count}
 use Rattle.line_file.specs.Lines.{ReadsFault, ReadsLine}
 use Rattle.line_file.specs.Lists.{IsBookFault, IsSound}
 use Rattle.line_file.proofs.Kept.{found-first}
 
--- The desk's tables are there, and nothing is before them.
+-- The file has the desk's tables, and nothing before them.
 ours-there : (db : Database) → HasPlace db → IsOurs db.schema
 ours-there db (inl shelf) = record { rules = Two; layout = layout_of shelf.0; same = shelf.1 }
 ours-there db (inr only) = record { rules = Two; layout = only-ours only.0; same = only.1 }
@@ -36,8 +36,7 @@ named-ours db (inl shelf) = is_ours_of db.schema (layout_of shelf.0) shelf.1
 named-ours db (inr only) = is_ours_of db.schema (only-ours only.0) only.1
 
 module _ {F : Type 0} {g : disk.Ghosts F} (image : Image) (first conn : Held (FileStore F g)) (f : Files F)
-    (since : IsUnchangedSince image (λ _ _. ⊥) first conn) (copied : IsCopied conn f)
-    (place : HasListsFirst image) where
+    (since : IsUnchangedSince image (λ _ _. ⊥) first conn) (copied : IsCopied conn f) where
   abbrev db : Database
   db = (file_state first).committed
 
@@ -47,9 +46,13 @@ module _ {F : Type 0} {g : disk.Ghosts F} (image : Image) (first conn : Held (Fi
   there : IsFoundIn image db
   there = found-first image first conn f since copied.was_clean
 
-  pub line-in : {D : Type 0} (StandsFor : D → Basis → Type 0) (line : Line D)
+  pub named-in : {D : Type 0} (StandsFor : D → Basis → Type 0) (line : Line D)
+      → ReadsLine StandsFor (IsSound (file_state conn)) (file_state first) line → IsNamedIn image
+  named-in StandsFor line reads = (db, there, reads.is.lists.named sound)
+
+  pub line-in : HasListsFirst image → {D : Type 0} (StandsFor : D → Basis → Type 0) (line : Line D)
       → ReadsLine StandsFor (IsSound (file_state conn)) (file_state first) line → IsLineIn StandsFor image line
-  line-in StandsFor line reads =
+  line-in place StandsFor line reads =
       let here = place db there in
       let own = reads.own ∙ named-ours db here in
       let lists = reads.is.lists in
@@ -73,11 +76,12 @@ module _ {F : Type 0} {g : disk.Ghosts F} (image : Image) (first conn : Held (Fi
         entries = omega (arith, many.0, many.1);
       }
 
-  pub fault-of : (fault : ListFault) → ReadsFault (file_state first) fault → IsFaultOf image fault
-  fault-of (AtHistory fault) is =
+  pub fault-of : HasListsFirst image → (fault : ListFault) → ReadsFault (file_state first) fault
+      → IsFaultOf image fault
+  fault-of place (AtHistory fault) is =
       inr (fault_in image first conn (λ _ _. ⊥) (λ clean. (since.opened clean).0) (λ clean. (since.opened clean).1)
       since.kept since.survives Two fault (λ _. is.0) is.1 copied.was_clean)
-  fault-of (AtBook fault) (L, reads, is) = book-fault is
+  fault-of place (AtBook fault) (L, reads, is) = book-fault is
     where
       book-fault : IsBookFault (length L.history) (file_state first) fault → IsFaultOf image (AtBook fault)
       book-fault (inl none) = inl none

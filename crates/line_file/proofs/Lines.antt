@@ -15,7 +15,7 @@ use Rattle.line_file.specs.declared.store.Line.{Line}
 use Rattle.book_store.specs.declared.restoring.Restored.{Restored}
 use Rattle.book_store.specs.Opened.{HasPlace}
 use Rattle.line_file.specs.Lines.{IsLineOf, IsListFault, line_of, ReadsFault}
-use Rattle.line_file.specs.Lists.{ReadsLists, HoldsRows, IsBookFault, IsSound}
+use Rattle.line_file.specs.Lists.{ReadsLists, HoldsRows, IsBookFault, IsNamed, IsSound}
 use Rattle.line_file.proofs.Results.{fault-before}
 use Rattle.line_tables.specs.Calls.{Reads}
 use Rattle.line_tables.specs.Rows.{Holds}
@@ -60,6 +60,7 @@ line-before StandsFor L old mid new kept opens line is = record {
     rows = is.lists.rows;
     notes = is.lists.notes;
     read = is.lists.read;
+    named = λ sound. subst IsNamed ((kept sound.0).committed (opens sound.0 sound.1)) (is.lists.named sound);
     book = λ sound. subst (λ (db : Database). HasPlace db → HoldsRows db is.lists.rows)
         ((kept sound.0).committed (opens sound.0 sound.1)) (is.lists.book sound);
     guard = is.lists.guard;

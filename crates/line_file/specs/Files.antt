@@ -33,7 +33,7 @@ use Rattle.book_store.specs.Opened.{HasPlace}
 use Rattle.line_file.specs.declared.fault.ListFault.{ListFault}
 use Rattle.line_file.specs.declared.fault.ListFault.TheVariants.{History as AtHistory, Book as AtBook}
 use Rattle.line_file.specs.declared.store.Line.{Line}
-use Rattle.line_file.specs.Lists.{HoldsRows}
+use Rattle.line_file.specs.Lists.{HoldsRows, IsNamed}
 
 -- ---- both lists
 
@@ -64,19 +64,23 @@ pub record IsLineIn {D : Type 0} (StandsFor : D → Basis → Type 0) (image : I
   pub count : line.commands ≡ length history
   pub entries : line.lists.reading.entries ≡ length rows
 
--- The same if no disk lied until the files were closed.
+-- Some open of the files finds no other table in the book's place.
+abbrev pub IsNamedIn : Image → Type 0
+IsNamedIn image = (db : Database) × IsFoundIn image db × IsNamed db
+
+-- If no disk lied until the files were closed, no other table is in the book's place; and the line is that of the lists.
 abbrev pub FindsLine : {D F : Type 0} → (D → Basis → Type 0) → disk.Ghosts F → Image → Files F
     → Line D → Type 0
 FindsLine StandsFor g image f line =
-    AreClean g f.log f.db → HasListsFirst image → IsLineIn StandsFor image line
+    AreClean g f.log f.db → IsNamedIn image × (HasListsFirst image → IsLineIn StandsFor image line)
 
--- Files that were opened and closed held a history, rows and the entries that they say, of which this is true, if no
--- disk lied until they were closed.
+-- This is true of the history, the rows and their entries that files held when they were opened. No other table was in
+-- the book's place. Both hold if no disk lied until the files were closed.
 abbrev pub AreListsOf : {F : Type 0} → disk.Ghosts F → Image → Option (Files F)
     → (History → List BookRow → Book → Type 0) → Type 0
-AreListsOf g image files Fact = IsSomeAnd files (λ f. AreClean g f.log f.db → HasListsFirst image
-    → (db : Database) × IsFoundIn image db × (greatest : ℕ) × (H : History)
-    × (rows : List BookRow) × (B : Book) × HoldsLists db greatest H rows B × Fact H rows B)
+AreListsOf g image files Fact = IsSomeAnd files (λ f. AreClean g f.log f.db → IsNamedIn image
+    × (HasListsFirst image → (db : Database) × IsFoundIn image db × (greatest : ℕ) × (H : History)
+    × (rows : List BookRow) × (B : Book) × HoldsLists db greatest H rows B × Fact H rows B))
 
 -- ---- a fault
 
@@ -116,7 +120,7 @@ IsKept g first last = (AreClean g last.log last.db
     → (db : Database) × IsFoundIn (image_of g first) db × StillHold g last db.trees)
     ⊎ IsUnread g first last
 
--- A connection was closed, and what was read is returned; or the close failed.
+-- A connection was closed, and the reading is returned; or the close failed.
 abbrev pub Closes : {X F : Type 0} {g : disk.Ghosts F} → Result X ListFault
     → Held (FileStore F g) → Result X ListFault → Files F → Type 0
 Closes line conn told files = ((told ≡ line) × Copies conn files)

@@ -1,5 +1,5 @@
 -- The two lists of a store, and why they can't be read.
-use Rattle.std.specs.Prelude.{◌≡◌, ◌⊎◌, ℕ, [], true, IsTrue, List, Err, Ok, length}
+use Rattle.std.specs.Prelude.{◌≡◌, ◌⊎◌, ℕ, [], true, Bool, IsTrue, List, Err, Ok, length}
 use Rattle.sqlite.specs.Effect.{Database}
 use Rattle.sqlite.specs.State.{HasCleanDisk, State}
 use Rattle.line_book.specs.declared.note.Note.{Note}
@@ -24,12 +24,17 @@ IsSound s = HasCleanDisk s × IsTrue s.is_open
 abbrev pub HoldsRows : Database → List BookRow → Type 0
 HoldsRows db rows = HoldsBook db rows ⊎ (IsAlone db × (rows ≡ []))
 
--- The rows are read as entries of the history. If the state is sound, they are those of the committed book; if the
--- tables are the store's own too, the guard is that of both lists.
+-- The first table behind the desk's is the book, by its name and columns, or there is none.
+abbrev pub IsNamed : Database → Type 0
+IsNamed db = (has : Bool) × (has_book db.schema.tables ≡ Ok has)
+
+-- The rows are read as entries of the history. If the state is sound, no other table is in the book's place, and they
+-- are those of the committed book; if the tables are the store's own too, the guard is that of both lists.
 pub record ReadsLists (L : Kept) (Sound : Type 0) (old : State) (r : Restored) : Type 0 where
   pub rows : List BookRow
   pub notes : List Note
   pub read : AreRead (first_reading (length L.history)) rows notes r.reading
+  pub named : Sound → IsNamed old.committed
   pub book : Sound → HasPlace old.committed → HoldsRows old.committed rows
   pub guard : Sound → IsTrue L.own → IsGuard L.history notes r.guard
 

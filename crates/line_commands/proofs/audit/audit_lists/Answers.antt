@@ -10,9 +10,12 @@ returns-in-Ok-clause-ends g c =
       line.lists.reading.entries,
       print_follows c.tell_counts-status.ensures.ends (λ none. inl none),
       λ _. some-of c.read_file-line.result.0 c.read_file-line.result.1 line c.in-Ok.is _ _
-          (λ f found clean place.
-          let at = found clean place in
-          (at.db, at.found, at.greatest, at.history, at.rows, at.notes, at.lists, (at.count, at.entries)))
+          (λ f found clean. (
+            (found clean).0,
+            λ place.
+                let at = (found clean).1 place in
+                (at.db, at.found, at.greatest, at.history, at.rows, at.notes, at.lists, (at.count, at.entries)),
+          ))
           c.read_file-line.ensures.lists,
     )
 

@@ -7,16 +7,12 @@ pub returns-in-Ok-clause-ends : goal.returns-in-Ok-clause-ends
 returns-in-Ok-clause-ends g c =
     report_follows c.tell_answer.ensures.ends
     (λ answer by. some-of c.read_file-line.result.0 c.read_file-line.result.1 c.in-Ok.line c.in-Ok.is _ _
-    (λ f found clean place.
-    let at = found clean place in (
-      at.db,
-      at.found,
-      at.greatest,
-      at.history,
-      at.rows,
-      at.notes,
-      at.lists,
-      by at.history at.notes at.desk at.guard at.count,
+    (λ f found clean. (
+      (found clean).0,
+      λ place.
+          let at = (found clean).1 place in
+          let is = by at.history at.notes at.desk at.guard at.count in
+          (at.db, at.found, at.greatest, at.history, at.rows, at.notes, at.lists, is),
     ))
     c.read_file-line.ensures.lists)
     (λ none. inl none)

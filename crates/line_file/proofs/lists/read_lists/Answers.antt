@@ -3,6 +3,7 @@ use Rattle.line_book_store.specs.Names.{has_book}
 use Rattle.line_schema.specs.Stands.{state_of}
 use Rattle.book_store.proofs.Finding.{alone_there, err_weaker, shelf_there}
 use Rattle.book_store.proofs.InTurn.{store_same}
+use Rattle.line_file.specs.Lists.{IsSound}
 use Rattle.line_file.proofs.lists.read_lists.Goals as goal
 
 pub returns-in-Err-clause-err : goal.returns-in-Err-clause-err
@@ -22,6 +23,7 @@ returns-then-has-clause-ok g c L stands =
       rows = is.rows;
       notes = is.notes;
       read = is.read;
+      named = λ sound. (true, named ((c.restore.ensures.reads.reads.kept sound.0).was_open sound.1));
       book = λ sound place.
           let all = is.all sound.0 in
           let shelf = shelf_there old.committed place (named all.was_open) in
@@ -41,16 +43,17 @@ returns-then-has-clause-err g c L stands sound =
 pub returns-clause-ok : goal.returns-clause-ok
 returns-clause-ok g c L stands =
     let old = state_of g.S.Store c.args.store.now in
+    let Sound = IsSound (state_of g.S.Store c.read_history.new.store) in
+    let named : Sound → has_book old.committed.schema.tables ≡ Ok false = λ sound.
+    let was : IsTrue old.is_open = (c.read_history.ensures.reads.reads.kept sound.0).was_open sound.1 in
+    sym (c.has_book.ensures.committed L stands was) ∙ c.in-Ok.is ∙ ap Ok c.if-has.false in
     IfOk-weaker c.read_history.result _ _
     (λ r is. record {
       rows = [];
       notes = [];
       read = is.0;
-      book = λ sound place.
-          let was : IsTrue old.is_open = (c.read_history.ensures.reads.reads.kept sound.0).was_open sound.1 in
-          let named : has_book old.committed.schema.tables ≡ Ok false =
-          sym (c.has_book.ensures.committed L stands was) ∙ c.in-Ok.is ∙ ap Ok c.if-has.false in
-          inr (alone_there old.committed place named, refl);
+      named = λ sound. (false, named sound);
+      book = λ sound place. inr (alone_there old.committed place (named sound), refl);
       guard = is.1;
     })
     (c.read_history.ensures.ok L stands)
