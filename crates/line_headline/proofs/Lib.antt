@@ -1,0 +1,2 @@
+pub mod CallsInTurn
+pub mod Growing
