@@ -27,6 +27,11 @@ SETUP = [
 ]
 LOADED = [*SETUP, "MaterialsLoaded M 1 K1"]
 UNKNOWN = "MaterialsLoaded M 1 K9"
+BUILDING = [
+    *(SETUP[0], "SheetDefined PR M 1 1 P 3 R1 R2 R3", *SETUP[2:]),
+    *("MaterialsLoaded M 1 K1", "WorkStarted M B1"),
+]
+INSTALL = "MaterialsInstalled M B1"
 WORK = ["WorkStarted M B1", "MaterialsInstalled M B1 1 R1", "WorkCompleted M B1"]
 SAID = {"By": "A. Person", "Reason": "looked at"}
 COLUMNS = "n, after, kind, source, uid, machine, slot, reel, word, of"
@@ -36,6 +41,12 @@ Answer = tuple[int, bytes]
 def message(number: int, line: str) -> bytes:
     """The message of a command: its stored text, with spaces for tabs."""
     return stored.message(f"u{number}", "S", 0, line.replace(" ", "\t")).encode()
+
+
+def with_members(number: int, line: str, **members: Any) -> bytes:
+    """The message of a command, with more members in its body."""
+    told = json.loads(message(number, line))
+    return json.dumps(told | {"MessageBody": told["MessageBody"] | members}).encode()
 
 
 def asked(link: http.client.HTTPConnection, target: str, body: bytes | None = None) -> Answer:
@@ -75,6 +86,11 @@ class Line:
             ]
         return [status for status, _ in its]
 
+    def tell(self, number: int, line: str, **members: Any) -> int:
+        """Sends a command with members that the desk skips; the status of its answer."""
+        with self.served() as link:
+            return asked(link, "/messages", with_members(number, line, **members))[0]
+
     def say(self, what: str, **said: Any) -> dict[str, Any]:
         with self.served() as link:
             status, told = asked(link, f"/line/{what}", json.dumps(said | SAID).encode())
@@ -91,6 +107,12 @@ class Line:
 
     def causes(self) -> list[tuple[Any, ...]]:
         return [(it["Cause"], it.get("Entry")) for it in self.state()["Causes"]]
+
+    def counts(self) -> tuple[int, int, int]:
+        """How many entries there are, how many are open, and how many wait for a decision."""
+        with self.served() as link:
+            its = json.loads(asked(link, "/line/counts")[1])
+        return its["Entries"], its["Open"], its["Undecided"]
 
     def run(self, command: str, *words: str) -> "subprocess.CompletedProcess[bytes]":
         return subprocess.run(
@@ -250,3 +272,85 @@ def test_the_book_as_csv(line: Line) -> None:
     rows = list(csv.DictReader(io.StringIO(book[1].decode())))
     assert [(row["kind"], row["state"]) for row in rows] == [("handling", "open"), ("work", "open")]
     assert [row["n"] for row in csv.DictReader(io.StringIO(undecided[1].decode()))] == ["2"]
+
+
+# --- Members that only a line reads
+
+
+def test_the_attributes_of_a_receipt(line: Line) -> None:
+    line.send(*SETUP)
+    told = "ReelReceived K3 P L3 1 100 0"
+    members = {"Supplier": 'Acme, "x"', "DateCode": "2614", "MakerPart": "", "Order": 7}
+    assert [line.tell(6, told, **members) for _ in range(2)] == [200, 200]
+    assert line.rows() == [
+        (1, 5, "attribute", "S", "u6", "", "", "K3", "DateCode", 0),
+        (2, 5, "attribute", "S", "u6", "", "", "K3", "Supplier", 0),
+    ]
+    assert line.rows("told") == [("2614",), ('Acme, "x"',)] and line.counts() == (2, 0, 0)
+    assert line.tell(7, told, **members) == 409
+    assert line.audit() == "lawful 6 book 2\n"
+
+
+def test_a_difference_stops_the_machine_until_its_slot_is_loaded(line: Line) -> None:
+    assert line.send(*BUILDING) == [200] * 7 and line.causes() == []
+    its = 8, f"{INSTALL} 3 R1 R2 R3"
+    assert [line.tell(*its, MachineReels=["K2", "K1", "K2"]) for _ in range(2)] == [200, 200]
+    assert line.rows() == [(1, 7, "differs", "S", "u8", "M", "1", "K2", "K1", 0)]
+    assert line.rows("board, told") == [("B1", "R1 R3")]
+    assert line.send("MaterialsSpliced M 1 K2", first=9) == [200]
+    assert line.causes() == [("Open", 1)] and line.counts() == (1, 1, 1)
+    assert line.send("MaterialsUnloaded M 1", "MaterialsLoaded M 1 K2", first=10) == [200, 200]
+    assert line.causes() == [] and line.counts() == (1, 0, 1)
+
+
+def test_a_difference_stops_the_machine_until_somebody_decides(line: Line) -> None:
+    line.send(*BUILDING)
+    assert line.tell(8, f"{INSTALL} 1 R1", MachineReels=["K2"]) == 200
+    assert line.tell(9, f"{INSTALL} 1 R2", MachineReels=["K9"]) == 200
+    assert line.causes() == [("Open", 1), ("Open", 2)]
+    line.say("decisions", Of=1, Became="looked at")
+    assert line.causes() == [("Open", 2)]
+    line.say("decisions", Of=2, Became="scrapped")
+    assert line.causes() == [] and line.counts() == (4, 0, 0)
+
+
+def test_a_neighbor_on_the_tape_is_a_boundary(line: Line) -> None:
+    """Also a spent one."""
+    line.send(*(it.replace("L1 1 100", "L1 1 1") for it in BUILDING), "MaterialsSpliced M 1 K2")
+    assert line.tell(9, f"{INSTALL} 1 R1", MachineReels=["K2"]) == 200
+    assert line.tell(10, f"{INSTALL} 1 R2", MachineReels=["K1"]) == 200
+    assert line.rows() == [
+        (1, 8, "boundary", "S", "u9", "M", "1", "K2", "K1", 0),
+        (2, 9, "boundary", "S", "u10", "M", "1", "K1", "K2", 0),
+    ]
+    assert line.causes() == [] and line.counts() == (2, 0, 0)
+
+
+def test_reels_that_cannot_be_compared(line: Line) -> None:
+    line.send(*BUILDING)
+    told = f"{INSTALL} 1 R1"
+    assert line.tell(8, told, MachineReels=["K2", "K2"]) == 200
+    assert line.rows() == [(1, 7, "uncompared", "S", "u8", "M", "", "", "", 0)]
+    sent = with_members(8, told, MachineReels=["K2", "K2"]).decode()
+    assert line.rows("board, told") == [("B1", sent)]
+    assert line.causes() == [] and line.counts() == (1, 0, 1)
+
+
+@pytest.mark.parametrize("reels", [["K1"], [None], None])
+def test_reels_that_differ_in_nothing(line: Line, reels: list[str | None] | None) -> None:
+    line.send(*BUILDING)
+    assert line.tell(8, f"{INSTALL} 1 R1", MachineReels=reels) == 200
+    assert line.rows() == [] and line.causes() == []
+
+
+def test_a_refused_install_is_not_compared(line: Line) -> None:
+    line.send(*BUILDING)
+    assert line.tell(8, "MaterialsInstalled M B2 1 R1", MachineReels=["K2"]) == 409
+    assert [row[2] for row in line.rows()] == ["work"]
+
+
+def test_a_kill_leaves_a_command_and_its_entries(line: Line) -> None:
+    line.send(*BUILDING)
+    told = with_members(8, f"{INSTALL} 1 R1", MachineReels=["K2"])
+    assert line.killed_after("/messages", told)[0] == 200
+    assert line.audit() == "lawful 8 book 1\n" and line.causes() == [("Open", 1)]

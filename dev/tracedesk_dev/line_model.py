@@ -6,47 +6,39 @@ serve` says it, of the same messages. All else is worked out here.
 """
 from __future__ import annotations
 
-import csv
-import io
 import json
-from typing import Any, NamedTuple
+from typing import NamedTuple
 
-Body = dict[str, Any]
+from tracedesk_dev.line_entries import (
+    HANDLINGS,
+    LOADS,
+    MEMBERS,
+    NAMELESS,
+    STOP,
+    VERIFIED,
+    WAIT,
+    Body,
+    Command,
+    Entry,
+    Piece,
+    as_told,
+    attributes,
+    closes,
+    differences,
+    envelope,
+    is_name,
+    is_text,
+    members_of,
+    names_reels,
+    said,
+    word_of,
+)
+
 Answer = tuple[int, bytes]
 
-LOADS = ("MaterialsLoaded", "MaterialsSpliced")
-HANDLINGS = (*LOADS, "MaterialsUnloaded")
-WORKS = ("WorkStarted", "WorkCompleted", "MaterialsInstalled", "MaterialsScrapped")
-MEMBERS = ("Machine", "Slot", "Reel", "Board", "Designators", "Quantity")  # of these seven
-VERIFIED = ("SlotTaken", "ReelMounted")  # what a load is refused for whose reel is there already
-STOP = ("handling", "stray", "work", "differs")  # kinds of entries that stop a machine
-WAIT = ("work", "unread", "differs", "uncompared")  # those that wait for a decision
 SAYS = {"decisions": "Of", "holds": "Hold", "releases": "Release"}
 TOLD = {"decisions": "Decided", "holds": "Held", "releases": "Released"}
 COLUMNS = "n,after,kind,source,uid,machine,slot,board,reel,word,of,told,state\n"
-
-
-class Command(NamedTuple):
-    """An accepted command."""
-
-    word: str
-    body: Body
-
-
-class Entry(NamedTuple):
-    """A row of the book, without its number."""
-
-    after: int
-    kind: str
-    source: str = ""
-    uid: str = ""
-    machine: str = ""
-    slot: str = ""
-    board: str = ""
-    reel: str = ""
-    word: str = ""
-    of: int = 0
-    told: str = ""
 
 
 class Live(NamedTuple):
@@ -67,72 +59,6 @@ def field(value: object) -> str:
     """A field of CSV."""
     told = str(value)
     return '"' + told.replace('"', '""') + '"' if set(told) & set(',"\r\n') else told
-
-
-def as_told(message: bytes) -> str:
-    """A message as the book has it."""
-    try:
-        told = message.decode()
-    except UnicodeDecodeError:
-        told = "\\"
-    return f"\\x{message.hex()}" if told.startswith("\\") else told
-
-
-def envelope(message: bytes) -> Body:
-    """The members of a message, none if it is no object."""
-    try:
-        told = json.loads(message)
-    except ValueError:
-        return {}
-    return told if isinstance(told, dict) else {}
-
-
-def word_of(told: Body) -> str | None:
-    """The word of a message, or none if its name can't be read."""
-    name = told.get("MessageName")
-    return name.removeprefix("TraceDesk.") if isinstance(name, str) else None
-
-
-def said(entry: Entry) -> Any:
-    """What an entry is about: a command without its envelope, or all of a faulty message."""
-    if entry.kind == "unread":
-        return entry.told
-    told = envelope(entry.told.encode())
-    return word_of(told), [told["MessageBody"].get(it) for it in MEMBERS]
-
-
-def closes(entry: Entry, command: Command) -> bool:
-    """Whether an accepted command closes an entry before it."""
-    word, body = command
-    is_there = body.get("Machine") == entry.machine
-    at_slot = is_there and body.get("Slot") == entry.slot
-    if entry.kind == "handling":
-        return word in HANDLINGS and at_slot
-    if entry.kind == "differs":
-        return word in ("MaterialsLoaded", "MaterialsUnloaded") and at_slot
-    if entry.kind == "work":
-        return word == "WorkStarted" and is_there
-    if entry.reel:
-        return word in LOADS and body["Reel"] == entry.reel
-    return word == "MaterialsUnloaded" and is_there
-
-
-def is_text(value: Any) -> bool:
-    """Whether somebody may say this in a decision or a hold."""
-    return (
-        isinstance(value, str)
-        and 1 <= len(value.encode()) <= 1000
-        and not any(it < " " or it == "\x7f" for it in value)
-    )
-
-
-def is_name(value: Any) -> bool:
-    return (
-        isinstance(value, str)
-        and 1 <= len(value) <= 64
-        and all(" " <= it <= "~" for it in value)
-        and value == value.strip(" ")
-    )
 
 
 class Line:
@@ -173,6 +99,15 @@ class Line:
             if word in ("WorkStarted", "WorkCompleted") and body["Machine"] == machine:
                 return str(body["Board"]) if word == "WorkStarted" else None
         return None
+
+    def tape(self, machine: str, slot: str) -> list[str]:
+        """The reel of a slot's last load and those spliced since, also spent ones."""
+        tape: list[str] = []
+        for word, body in self.history:
+            if word in HANDLINGS and (body["Machine"], body["Slot"]) == (machine, slot):
+                before = tape if word == "MaterialsSpliced" else []
+                tape = [] if word == "MaterialsUnloaded" else [*before, body["Reel"]]
+        return tape
 
     def is_allowed(self, part: str, other: str) -> bool:
         """Whether a slot for this part may have a reel of the other."""
@@ -222,26 +157,49 @@ class Line:
     def hear(self, message: bytes, status: int, answer: bytes, live: list[Live]) -> None:
         """A message, its answer, and the live reels on its machine."""
         told, reply = envelope(message), json.loads(answer)
-        word = word_of(told)
+        word = "" if reply.get("Fault") in NAMELESS else word_of(told)
         entry = None
-        if reply["Answer"] == "Accepted":
-            self.accept(str(word), told["MessageBody"], reply["Number"])
-        elif reply["Answer"] == "Refused" and word in (*HANDLINGS, *WORKS):
+        if reply["Answer"] == "Accepted" and reply["Number"] > len(self.history):
+            self.book += self.findings(told, message, reply)
+            self.history.append(Command(word, told["MessageBody"]))
+        elif reply["Answer"] == "Refused" and word in MEMBERS:
             entry = self.refused(told, message, reply, live)
-        elif reply["Answer"] == "Faulty" and (word is None or word in (*HANDLINGS, *WORKS)):
+        elif reply["Answer"] == "Faulty" and word in ("", *MEMBERS):
             its = len(self.history), "unread"
             entry = Entry(*its, word=reply["Fault"], told=as_told(message))
         if entry and not self.is_known(entry):
             self.book.append(entry)
 
-    def accept(self, word: str, body: Body, number: int) -> None:
-        """A command that was accepted, now or before."""
-        if number == len(self.history) + 1:
-            self.history.append(Command(word, body))
+    def findings(self, told: Body, message: bytes, reply: Body) -> list[Entry]:
+        """The entries of a message that is accepted now."""
+        found: list[Entry] = []
+        if word_of(told) == "ReelReceived":
+            found = attributes(told["MessageBody"])
+        elif word_of(told) == "MaterialsInstalled":
+            found = self.compared(told["MessageBody"], message, reply["Reels"])
+        its = {"source": told["Source"], "uid": told["UniqueID"]}
+        return [it._replace(after=len(self.history), **its) for it in found]
+
+    def compared(self, body: Body, message: bytes, desk_reels: list[str]) -> list[Entry]:
+        """The entries of an install whose machine names reels."""
+        names, machine, reels = body["Designators"], body["Machine"], body.get("MachineReels")
+        if reels is None:
+            return []
+        found = [Entry(0, "uncompared", told=as_told(message))]
+        if names_reels(reels, len(names)):
+            slots = {
+                name: row["Slot"]
+                for row in self.sheet(machine) or []
+                for name in row["Designators"]
+            }
+            tapes = {it: self.tape(machine, it) for it in slots.values()}
+            pieces = zip(names, [slots[it] for it in names], reels, desk_reels)
+            found = differences([Piece(*it) for it in pieces], tapes)
+        return [it._replace(machine=machine, board=body["Board"]) for it in found]
 
     def refused(self, told: Body, message: bytes, reply: Body, live: list[Live]) -> Entry | None:
         """The entry of a refused message."""
-        word, body, refusal = word_of(told), told["MessageBody"], reply["Refusal"]
+        word, body, refusal = word_of(told), members_of(told), reply["Refusal"]
         machine, slot, reel = (body.get(it, "") for it in ("Machine", "Slot", "Reel"))
         is_there = any((it.slot, it.reel) == (slot, reel) for it in live)
         if word in LOADS and refusal in VERIFIED and is_there:
@@ -260,19 +218,6 @@ class Line:
         )
         return its._replace(board=body.get("Board", ""), slot=reply["At"] if names_slot else "")
 
-    def import_setup(self, product: str, machine: str, file: str, number: int) -> None:
-        """A setup file that was accepted."""
-        rows = [
-            {
-                "Slot": it["slot"],
-                "PartNumber": it["part"],
-                "Designators": it["designators"].split(),
-            }
-            for it in csv.DictReader(io.StringIO(file))
-        ]
-        body = {"Product": product, "Machine": machine, "Rows": rows}
-        self.accept("SheetDefined", body, number)
-
     # --- What somebody says
 
     def fault_of(self, what: str, body: bytes) -> Answer | None:
@@ -285,7 +230,7 @@ class Line:
             return 400, text({"Answer": "Faulty", "Fault": "NotObject"})
         first = SAYS[what]
         is_right = {
-            "Of": type(its.get("Of")) is int,
+            "Of": type(its.get("Of")) is int and 0 <= its["Of"] < 2**64,
             "Became": is_text(its.get("Became")),
             "Hold": its.get("Hold") in ("reel", "lot"),
             "Release": its.get("Release") in ("reel", "lot"),

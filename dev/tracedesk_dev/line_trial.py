@@ -10,7 +10,6 @@ import http.client
 import io
 import json
 import pathlib
-import sqlite3
 import statistics
 import subprocess
 import tempfile
@@ -19,8 +18,9 @@ import urllib.parse
 from typing import Iterator
 
 from tracedesk_dev import trial
-from tracedesk_dev.line_model import Answer, Line, Live, envelope, text
-from tracedesk_dev.line_streams import MACHINES, Step
+from tracedesk_dev.line_entries import Body, Command, envelope
+from tracedesk_dev.line_model import Answer, Line, Live, text
+from tracedesk_dev.line_messages import MACHINES, Step
 from tracedesk_dev.trial import Difference
 
 ASKED = (*MACHINES, "O")
@@ -30,7 +30,6 @@ FAULTS: dict[str, Answer] = {  # what else is asked below /line
     "/line/book": (400, text({**BAD_QUERY, "Member": "after"})),
     "/line/none": (404, text({"Answer": "NotFound", "Kind": "Path"})),
 }
-NOTED = "INSERT INTO book VALUES (?, ?, ?, ?, ?, ?, ?, ?, ?, ?, ?, ?)"
 MOST_RUNS = 150  # to make a stream shorter
 
 
@@ -43,6 +42,14 @@ def asked(link: http.client.HTTPConnection, target: str, body: bytes | None = No
 def same(what: object, wanted: Answer, got: Answer) -> None:
     if wanted != got:
         raise Difference(f"{what}\n  the model says {wanted}\n  the program     {got}")
+
+
+def rows_of(file: bytes) -> list[Body]:
+    """The rows of a sheet, by a setup file."""
+    return [
+        {"Slot": it["slot"], "PartNumber": it["part"], "Designators": it["designators"].split()}
+        for it in csv.DictReader(io.StringIO(file.decode()))
+    ]
 
 
 class Trial:
@@ -97,17 +104,18 @@ class Trial:
         reply = json.loads(answer[1]) if answer[1].startswith(b"{") else {}
         if target == "/messages" and body is not None:
             self.model.hear(body, *answer, live)
-        elif reply.get("Answer") == "Accepted":
-            self.imported(target, body or b"", reply["Number"])
+        elif reply.get("Answer") == "Accepted" and reply["Number"] > len(self.model.history):
+            self.imported(target, body or b"")
         return answer
 
-    def imported(self, target: str, file: bytes, number: int) -> None:
-        options = dict(urllib.parse.parse_qsl(target.partition("?")[2]))
-        if "product" in options:
-            its = options["product"], options["machine"]
-            self.model.import_setup(*its, file.decode(), number)
+    def imported(self, target: str, file: bytes) -> None:
+        """A file that is accepted now."""
+        its = dict(urllib.parse.parse_qsl(target.partition("?")[2]))
+        if "product" in its:
+            body = {"Product": its["product"], "Machine": its["machine"], "Rows": rows_of(file)}
+            self.model.history.append(Command("SheetDefined", body))
         else:
-            self.model.accept("CountsTaken", {}, number)
+            self.model.history.append(Command("CountsTaken", {}))
 
     # --- Steps
 
@@ -152,20 +160,8 @@ class Trial:
         if not got and (not is_kept or step.target == "/messages"):
             self.ask(step)
 
-    def note(self, step: Step) -> None:
-        """Puts an entry into the file while nobody serves it."""
-        assert step.entry
-        entry = step.entry._replace(after=len(self.model.history))
-        self.serving.close()
-        self.model.book.append(entry)
-        with contextlib.closing(sqlite3.connect(self.file)) as file, file:
-            file.execute(NOTED, (len(self.model.book), *entry))
-        self.restart()
-
     def take(self, step: Step) -> None:
-        if step.what == "note":
-            self.note(step)
-        elif step.what in ("ask", "tell"):
+        if step.what in ("ask", "tell"):
             self.ask(step)
         elif step.what == "killed":
             self.killed(step)
