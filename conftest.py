@@ -65,7 +65,7 @@ def pytest_runtest_setup(item: pytest.Item) -> None:
 
 @pytest.fixture(scope="session")
 def program() -> pathlib.Path:
-    """The program under test, with tracedesk-chain."""
+    """The program under test, with tracedesk-chain and tracedesk-line."""
     if not os.environ.get("PROGRAM"):
         if not programs.is_built():
             pytest.skip("there is no program: make build, or PROGRAM=FILE")
@@ -73,6 +73,8 @@ def program() -> pathlib.Path:
     file = pathlib.Path(os.environ["PROGRAM"])
     if not plant.chain_of(str(file)):
         pytest.skip(NO_CHAIN.format(file))
+    if not plant.line_of(str(file)):
+        pytest.skip(NO_LINE.format(file))
     return file
 
 
@@ -85,7 +87,7 @@ def chain(program: pathlib.Path) -> pathlib.Path:
 @pytest.fixture(scope="session")
 def line_program(program: pathlib.Path) -> pathlib.Path:
     """tracedesk-line."""
-    found = plant.next_to(str(program), "line")
+    found = plant.line_of(str(program))
     return pathlib.Path(found or pytest.skip(NO_LINE.format(program)))
 
 

@@ -60,10 +60,7 @@ OTHERS = {
         "crates/desk_types/src/boards.rt docs/http.md"
         " station/texts.js station/texts-de.js station/texts-es.js station/texts-zh.js"
     ),
-    "MOST_CONNECTIONS": (
-        "crates/desk_words/src/command_line.rt docs/http.md packaging/Containerfile"
-        " packaging/tracedesk.service packaging/tracedesk@.service station/setup.js"
-    ),
+    "MOST_CONNECTIONS": ("crates/desk_words/src/command_line.rt docs/http.md station/setup.js"),
     "MOST_DIGITS": "",
     "MOST_HEADERS": "crates/http_stream/README.md docs/http.md",
     "MOST_PORT": "crates/desk_words/src/command_line.rt packaging/tracedesk@.service",

@@ -11,7 +11,7 @@ from collections.abc import Callable
 import pytest
 
 from lab import files
-from lab.folders import audit, killed_at_each_call, line_of, rolled_over, seal, with_log
+from lab.folders import audit, killed_at_each_call, line_of, note, rolled_over, seal, with_log
 from tracedesk_ops import change, copies, lineage, plant, sealed
 from tracedesk_ops.line import LineFolder, NotALine
 
@@ -153,7 +153,7 @@ def test_a_desk_that_a_service_makes_meanwhile_is_not_replaced(folder: Path) -> 
     line.desk.unlink()
     its = change.plan(line, older)
 
-    def audited(file: Path) -> int:
+    def audited(file: Path) -> plant.Lawful:
         files.desk(line.desk, ["acknowledged"])
         return audit(file)
 
@@ -162,6 +162,23 @@ def test_a_desk_that_a_service_makes_meanwhile_is_not_replaced(folder: Path) -> 
     assert uids(line.desk) == ["acknowledged"]
     restored(line, older)
     assert uids(line.desk) == ["a"] and [uids(it) for it in lost_of(line)] == [["acknowledged"]]
+
+
+def test_entries_that_a_restore_takes_off_are_missing_until_they_are_there_again(
+    folder: Path,
+) -> None:
+    line = line_of(folder / "L1", "a")
+    note(line, "n")
+    older = seal(line)
+    note(line, "m")
+    its = restored(line, older)
+    assert f"1 entries of the book of {its.taken_off} are missing" in its.text()
+    seal(line, "b")
+    (lacked,) = lineage.of(line).lacked
+    assert lacked.text().startswith(f"1 entries of the book are in {line.lost / its.taken_off}")
+    note(line, "m")
+    seal(line)
+    assert not lineage.of(line).lacked
 
 
 def test_a_desk_that_runs_is_not_restored(folder: Path) -> None:
@@ -184,13 +201,13 @@ def test_a_file_that_the_audit_refuses_is_not_restored(folder: Path) -> None:
     line = line_of(folder / "L1", "a")
     its = change.plan(line, seal(line))
     with pytest.raises(change.NotChanged, match="take another file"):
-        change.restore(line, its, lambda file: 7)
+        change.restore(line, its, lambda file: plant.Lawful(7, 0))
     with pytest.raises(plant.Fault, match="no audit"):
         change.restore(line, its, refused)
     assert uids(line.desk) == ["a"] and not line.work.exists()
 
 
-def refused(file: Path) -> int:
+def refused(file: Path) -> plant.Lawful:
     raise plant.Fault("no audit")
 
 

@@ -55,6 +55,16 @@ def test_a_file_that_the_audit_refuses_is_to_be_restored(
     checked.expect("not lawful: the audit of a copy of ", f"tracedesk: {audit};", RESTORE)
 
 
+def test_a_table_of_others_in_a_file_without_a_book_is_to_be_dropped(checked: Checked) -> None:
+    """A desk of tracedesk may have some, and tracedesk-line makes its book in front of them."""
+    checked.do("CREATE TABLE shift(name TEXT)")
+    (said,) = checked.check()
+    assert "book OthersFirst" in said and said.endswith(
+        ": drop the tables and views that somebody added"
+    )
+    assert RESTORE not in said
+
+
 @pytest.mark.parametrize("number", range(8))
 def test_damaged_bytes_never_end_otherwise_than_by_a_verdict(checked: Checked, number: int) -> None:
     chance, content = random.Random(number), bytearray(checked.whole)
@@ -115,10 +125,14 @@ def test_log_that_is_a_link_or_a_folder(checked: Checked, folder: pathlib.Path) 
 
 
 @pytest.fixture
-def users(checked: Checked, folder: pathlib.Path) -> Checked:
+def users(checked: Checked, folder: pathlib.Path, monkeypatch: pytest.MonkeyPatch) -> Checked:
     """A file of root's in a folder of the service's user, who can run the program, too: that of a
     repository may lie in a folder that is root's alone.
     """
+    line = plant.line_of(str(checked.program))
+    assert line
+    shutil.copy(line, folder / "tracedesk-line")
+    monkeypatch.delenv("LINE", raising=False)  # the one in the folder, which anybody can run
     checked.program = pathlib.Path(shutil.copy(checked.program, folder / "tracedesk"))
     shutil.chown(checked.file.parent, "nobody")
     checked.file.chmod(0o600)
@@ -163,7 +177,15 @@ def test_disk_of_a_file(checked: Checked, done: str, text: str) -> None:
     size = len(checked.whole) * 3 // 2 + outside.ROOM_OF_AN_OPENING
     at, whole = checked.file.parent, checked.folder / "whole"
     words: list[Word] = ["unshare", "--mount", "sh", "-ec", WITH_DISK.format(size // 1024, done)]
-    words += [at, whole, sys.executable, "-c", CHECK, at / "desk", checked.program]
+    words += [
+        at,
+        whole,
+        sys.executable,
+        "-c",
+        CHECK,
+        at / "desk",
+        plant.line_of(str(checked.program)) or "",
+    ]
     run(words, env={"PYTHONPATH": str(OPS)}).expect(0, text)
     assert whole.read_bytes() == checked.whole
 

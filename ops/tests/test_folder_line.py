@@ -8,9 +8,10 @@ from typing import Any
 from lab import ROOT, messages
 from lab.desk import log_into_file
 from lab.line import Line
+from lab.programs import auditor
 from lab.tools import Ended, Word, run, run_tool, tool
 from tracedesk_dev import begun
-from tracedesk_ops import plant, sealed, sealing
+from tracedesk_ops import sealed, sealing
 from tracedesk_ops.line import LineFolder
 
 Path = pathlib.Path
@@ -108,5 +109,5 @@ def test_a_line_of_an_older_release_is_taken_over(line: Line, folder: Path) -> N
     assert [*home.glob("1.0.0/archive/L1-*")] and not home.joinpath("archive").exists()
     words: list[Word] = ["--program", line.program]
     run_tool("ops", "check", home, *words).expect(0, "sound, 2 files")
-    audit = plant.Program(str(line.program), home).audit
+    audit = auditor(line.program, home).audit
     assert sealing.seal(LineFolder(home), audit).commands == lawful

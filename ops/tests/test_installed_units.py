@@ -37,6 +37,7 @@ done
 """
 ASK = f"curl -sS -o /tmp/body -w '%{{http_code}} %{{redirect_url}}' {ANNA}"
 LINE, FOLDER = "L2", "/var/lib/tracedesk/L2"  # a line that is a folder
+ASKED, ANSWERS = "/var/lib/tracedesk-recall/asked", "/var/lib/tracedesk-recall/answers"
 PAPERS = {
     "recall.pdf": b"%PDF",
     "recall.xlsx": b"PK",
@@ -114,7 +115,7 @@ def recalled(machine: Machine, lot: str) -> str:
     """The address of a recall's answer, once it is there."""
     told = machine.by_client(f"{ASK} -F kind=lot -F names={lot} -F part= {URL}/recall/").split()
     assert told[0] == "303", machine.by_client("cat /tmp/body")
-    ended = f"ls /var/lib/tracedesk-recall/{told[1].rstrip('/').rpartition('/')[2]}"
+    ended = f"ls {ANSWERS}/{told[1].rstrip('/').rpartition('/')[2]} 2> /dev/null || true"
     wait_for("the recall's end", lambda: "ended.json" in machine.shell(ended), 3600)
     return told[1]
 
@@ -125,15 +126,16 @@ def test_tracedesk_recall_page(page: Machine, journal: Callable[[str], None]) ->
     assert page.by_client(f"{ASK} {at}").startswith("200")
     said = page.by_client("cat /tmp/body")
     assert 'id="answer">Complete: ' in said, re.sub(r"<[^>]*>", " ", said)
-    assert "is not installed" not in said and "too much time" not in said
+    assert "too much time" not in said
     for name, begin in PAPERS.items():
         assert page.by_client(f"{ASK} {at}{name}").startswith("200"), name
         assert page.by_client("head -c 9 /tmp/body").startswith(begin.decode()), name
     again = recalled(page, "no-such-lot")  # and the next one
     page.by_client(f"{ASK} {again}")
     assert "none of these lines knows" in page.by_client("cat /tmp/body")
-    left = page.shell("cd /var/lib/tracedesk-recall; ls -A | grep '^.new' || true; stat -c %a 2*")
-    assert set(left.split()) == {"2770"}
+    owners = page.shell(f"stat -c '%U %G %a' {ASKED} {ANSWERS} {ANSWERS}/2*").splitlines()
+    assert owners[0] == "tracedesk-recall tracedesk-recall 2750"
+    assert {*owners[1:]} == {"tracedesk tracedesk-recall 2750"}
     for unit in ("tracedesk-recall-page", "tracedesk-recall-work"):
         assert page.shell(f"systemctl is-active {unit}").strip() == "active"
         assert state_of(page, unit) == ["success", "0"]
@@ -143,13 +145,24 @@ def test_tracedesk_recall_page(page: Machine, journal: Callable[[str], None]) ->
 def test_tracedesk_recall_work(page: Machine, journal: Callable[[str], None]) -> None:
     """What is no question of the page's is ended, and the next recall is run."""
     name = f"{datetime.datetime(2020, 1, 1):%Y%m%dT%H%M%S.%fZ}-00000000"
-    folder = f"/var/lib/tracedesk-recall/{name}"
-    bad = {"kind": "lot", "names": ["L", "--program", "/x"], "part": 7, "reader": "x", "at": ""}
-    told = shlex.quote(json.dumps({**bad, "within": 0}))
-    put = f"umask 007; mkdir {folder}; printf %s {told} > {folder}/asked.json"
+    bad = {"kind": "lot", "names": ["L", "--program", "/x"], "reader": "x", "at": ""}
+    told = shlex.quote(json.dumps(bad))
+    put = f"umask 007; printf %s {told} > {ASKED}/{name}.json"
     page.shell(f"runuser -u tracedesk-recall -- sh -c {shlex.quote(put)}")
     recalled(page, "L-77")
-    assert '"status": 2' in page.shell(f"cat {folder}/ended.json")
+    assert '"status": 2' in page.shell(f"cat {ANSWERS}/{name}/ended.json")
+    journal("tracedesk-recall-work")
+
+
+def test_a_hold_by_the_page(page: Machine, journal: Callable[[str], None]) -> None:
+    """It is asked of each desk, of which those by `tracedesk serve` keep no book."""
+    words = "-F 'kind=hold lot' -F names=L-77 -F badge=4711 -F reason=tried"
+    told = page.by_client(f"{ASK} {words} {URL}/recall/").split()
+    assert told[0] == "303", page.by_client("cat /tmp/body")
+    ended = f"cat {ANSWERS}/{told[1].rstrip('/').rpartition('/')[2]}/ended.json || true"
+    wait_for("its end", lambda: "HELD" in page.shell(ended).upper())
+    page.by_client(f"{ASK} {told[1]}")
+    assert "its server keeps no book" in page.by_client("cat /tmp/body")
     journal("tracedesk-recall-work")
 
 
@@ -157,7 +170,7 @@ def test_tracedesk_recall_sign_of(page: Machine, journal: Callable[[str], None])
     """The worker has evidence signed by a key that none of the users can read."""
     page.shell(SIGNED)
     name = recalled(page, "L-77").rstrip("/").rpartition("/")[2]
-    sums = f"/var/lib/tracedesk-recall/{name}/evidence/SHA256SUMS"
+    sums = f"{ANSWERS}/{name}/evidence/SHA256SUMS"
     check = f"ssh-keygen -Y check-novalidate -n tracedesk-recall -s {sums}.sig < {sums}"
     key = page.shell("ssh-keygen -l -f /etc/tracedesk/recall-key.pub").split()[1]
     assert key in page.shell(check)
@@ -165,6 +178,8 @@ def test_tracedesk_recall_sign_of(page: Machine, journal: Callable[[str], None])
         page.shell(f"! runuser -u {user} -- cat /etc/tracedesk/recall-key 2> /dev/null")
     for user in ("tracedesk-recall", "www-data"):
         page.shell(f"! runuser -u {user} -- test -w /run/tracedesk-recall-sign")
+        page.shell(f"! runuser -u {user} -- test -w {ANSWERS}")
+    page.shell(f"! runuser -u www-data -- test -w {ASKED}")
     journal("tracedesk-recall-sign@*")
 
 

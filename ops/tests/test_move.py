@@ -21,8 +21,8 @@ import pytest
 
 from lab.desk import Desk
 from lab.floor import OLD_BOARDS, PARTS, Floor, say, texts
-from lab.line import table
-from lab.messages import Message
+from lab.line import Line, table
+from lab.messages import EPOCH, Message, part
 from lab.tools import Ended, Word, call_tool, run_tool
 from tracedesk_ops import catalogue
 from tracedesk_ops.cmd import move
@@ -253,3 +253,17 @@ def test_a_desk_that_gives_no_answer_changes_nothing(
 def test_words_that_are_refused(to: str) -> None:
     done = run_tool("ops", "move", "K", "--from", "http://127.0.0.1:1", "--to", to).expect(2)
     assert not done.out and "Traceback" not in done.err
+
+
+def test_a_held_reel_stays(line: Line, desk: Desk) -> None:
+    """Also if its lot is held; once both are released it is moved."""
+    line.say("MaterialsUnloaded", Machine="M", Slot="1")
+    desk.feed([part("P")])
+    desk.serve()
+    words = ["K1", "--from", line.url, "--to", desk.url, "--at", EPOCH]
+    for stock, name in (("reel", "K1"), ("lot", "L1")):
+        line.note("holds", Hold=stock, Name=name)
+        done = call_tool("move", *words)
+        done.expect(1, "ReelHeld", f"{name} is held: release it there first")
+        line.note("releases", Release=stock, Name=name)
+    call_tool("move", *words).expect(0, "the new desk's card of it: K1,")

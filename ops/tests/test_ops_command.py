@@ -62,15 +62,16 @@ class Called:
 def called(folder: Path, monkeypatch: pytest.MonkeyPatch) -> Called:
     """The same of a desk without rows of state, with a stand-in for the program."""
 
-    def audit(_: plant.Program, file: Path) -> int:
+    def audit(_: plant.Program, file: Path) -> plant.Lawful:
         try:
             with sealed.opened(file) as database:
-                return sealed.size(database, sealed.HISTORY)
+                return plant.Lawful(*(sealed.size(database, its) for its in sealed.LISTS))
         except sqlite3.Error as fault:
             raise plant.Fault(str(fault)) from fault
 
     monkeypatch.setattr(plant.Program, "audit", audit)
     monkeypatch.setattr(plant, "chain_of", lambda _: "chain")
+    monkeypatch.setattr(plant, "line_of", lambda _: "line")
     monkeypatch.setattr(chains, "asked", lambda *_: None)
     monkeypatch.setenv("PROGRAM", "true")
     line = LineFolder(folder / "L1")

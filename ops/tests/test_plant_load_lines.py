@@ -159,6 +159,16 @@ def test_a_refused_reel_that_the_desk_does_not_know_makes_pieces_doubtful(
         doubted.expect_as_recalled(kind, name)
 
 
+def test_a_reel_that_only_the_machine_names_makes_its_piece_doubtful(doubted: Doubted) -> None:
+    """By the book of the line. The desk knows K2, and not X9."""
+    for designator, reel in (("R4", "K2"), ("R5", "X9")):
+        its: dict[str, Any] = {"Designators": [designator], "MachineReels": [reel]}
+        doubted.line.accept(doubted.on_machine(22, "MaterialsInstalled", Board="B1", **its))
+    doubted.load()
+    for kind, name in (*NAMES, ("reel", "X9"), ("reel", "X8")):
+        doubted.expect_as_recalled(kind, name)
+
+
 def test_a_record_of_anybodys_words_is_loaded(doubted: Doubted) -> None:
     """PostgreSQL has no U+0000 and no half letter."""
     load = doubted.on_machine(22, "MaterialsLoaded", Slot="1", Reel="X\0\ud800")

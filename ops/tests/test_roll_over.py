@@ -7,14 +7,14 @@ import contextlib
 import pathlib
 import shutil
 import sqlite3
-from collections.abc import Sequence
+from collections.abc import Callable, Sequence
 from typing import Any
 
 import pytest
 
 from lab import files
-from lab.folders import audit, killed_at_each_call, line_of, rolled_over, seal
-from tracedesk_ops import lineage, plant, rollover, sealed, sealing
+from lab.folders import audit, killed_at_each_call, line_of, note, rolled_over, seal
+from tracedesk_ops import entries, lineage, plant, rollover, sealed, sealing
 from tracedesk_ops.line import LineFolder
 
 Path = pathlib.Path
@@ -59,7 +59,14 @@ def test_one_that_is_killed_at_any_call_changes_all_or_nothing(
     folder: Path, said: Sequence[tuple[str, str]]
 ) -> None:
     placed = 0
-    for line in killed_at_each_call(folder, lambda line: lambda: rolled_over(line, *said)):
+
+    def begin(line: LineFolder) -> Callable[[], object]:
+        for uid in ("n", "closed"):
+            note(line, uid)
+        note(line, "", "decision", 2)
+        return lambda: rolled_over(line, *said)
+
+    for line in killed_at_each_call(folder, begin):
         placed += rollover.was_placed(line)
         if rollover.was_placed(line) or not begun_from(line.desk):
             are_there = begun_from(line.desk) or "c" in uids(line.desk)
@@ -68,7 +75,28 @@ def test_one_that_is_killed_at_any_call_changes_all_or_nothing(
         assert begun_from(line.desk)
         expect_once(line, "a", *(uid for uid, _ in said))
         assert len(lineage.of(line).chain) == 2
+        assert [(its.uid, its.of) for its in entries.of(line.desk)] == [("", 0), ("n", 1)]
     assert placed > 1
+
+
+def test_entries_that_came_meanwhile_are_placed_as_they_were(folder: Path) -> None:
+    line = line_of(folder / "L1", "a", "b")
+    note(line, "n")
+    rolled_over(line, *MEANWHILE, notes=["m"])
+    its = entries.of(line.desk)
+    assert [(it.uid, it.of, it.after) for it in its] == [("", 0, 1), ("n", 1, 1), ("m", 0, 3)]
+    expect_once(line, "a", "b", "c", "d")
+
+
+def test_an_entry_that_was_carried_otherwise_is_named(folder: Path) -> None:
+    line = line_of(folder / "L1", "a")
+    note(line, "n")
+    rolled_over(line)
+    with files.opened(line.desk) as database:
+        database.execute("UPDATE book SET reel = 'K' WHERE n = 2")
+    seal(line, "b")
+    (fault,) = lineage.of(line).faults
+    assert "carries entry 2 of its book" in fault
 
 
 def test_one_that_fails_before_the_rename_leaves_the_old_desk_and_a_seal(

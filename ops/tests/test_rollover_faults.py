@@ -11,7 +11,7 @@ import pytest
 from lab import ROOT
 from lab.line import Line
 from lab.messages import part
-from lab.programs import wrapped
+from lab.programs import others_of, wrapped
 from lab.shifted import Shifted
 from lab.tools import run, started
 from lab.waits import PATIENCE, stays, wait_for
@@ -84,8 +84,7 @@ def test_disk_that_gets_full(
 def test_sigterm_puts_all_back(half: Line, shifted: Shifted, folder: pathlib.Path) -> None:
     """It comes while the new desk is made, which has no end here."""
     program = wrapped(folder, half.program, "feed", "while true; do sleep 0.1; done")
-    chain = {"CHAIN": str(program.with_name("tracedesk-chain"))}
-    tool = started(half.rollover_words(program=program), env=chain)
+    tool = started(half.rollover_words(program=program), env=others_of(program))
     messages = LineFolder(half.folder).work / "messages"
     wait_for("the new desk is begun", lambda: messages.exists() or tool.poll() is not None)
     tool.terminate()
@@ -101,8 +100,7 @@ def test_what_a_killed_call_runs_ends_with_it(
     child = folder / "child"
     act = f'echo $$ > "{child}.new"; mv "{child}.new" "{child}"; while true; do sleep 0.1; done'
     program = wrapped(folder, half.program, "feed", act)
-    chain = {"CHAIN": str(program.with_name("tracedesk-chain"))}
-    tool = started(half.rollover_words(program=program), env=chain)
+    tool = started(half.rollover_words(program=program), env=others_of(program))
     wait_for("the new desk is begun", lambda: child.exists() or tool.poll() is not None)
     tool.kill()
     tool.communicate()

@@ -53,13 +53,18 @@ def test_the_log_of_a_stopped_desk_is_sealed_with_it(folder: Path) -> None:
     assert copies.log_of(line.desk), "the desk stays as it was"
 
 
-def refused(_: Path) -> int:
+def refused(_: Path) -> plant.Lawful:
     raise plant.Fault("the audit says TableDiffers")
 
 
 @pytest.mark.parametrize(
     "judge, why",
-    [(lambda _: 0, "has 2 com"), (lambda _: 3, "has 2 com"), (refused, "TableDiffers")],
+    [
+        (lambda _: plant.Lawful(0, 0), "has 2 commands and 0 entries"),
+        (lambda _: plant.Lawful(3, 0), "says 3 and 0"),
+        (lambda _: plant.Lawful(2, 1), "says 2 and 1"),
+        (refused, "TableDiffers"),
+    ],
 )
 def test_a_copy_that_the_audit_refuses_or_finds_otherwise_is_not_kept(
     folder: Path, judge: sealing.Audit, why: str

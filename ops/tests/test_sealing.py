@@ -11,8 +11,9 @@ import pytest
 
 from lab import messages
 from lab.desk import Desk
+from lab.programs import auditor
 from lab.waits import wait_for
-from tracedesk_ops import copies, plant, sealed, sealing
+from tracedesk_ops import copies, sealed, sealing
 from tracedesk_ops.line import LineFolder
 
 Path = pathlib.Path
@@ -107,7 +108,7 @@ def sender(program: Path, folder: Path) -> Iterator[Sender]:
 
 def test_a_seal_under_load_has_what_was_acknowledged_before(sender: Sender) -> None:
     desk = sender.desk
-    audit = plant.Program(str(desk.program), desk.file).audit
+    audit = auditor(desk.program, desk.file).audit
     wait_for("some messages are answered", lambda: len(sender.numbers) > 20)
     for _ in range(3):
         acknowledged = dict(sender.numbers)

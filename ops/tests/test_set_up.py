@@ -65,8 +65,8 @@ def test_watch_and_clock_of_one_of_two_lines(one: Line, two: Line) -> None:
 
 
 def test_recall_asks_all_lines(one: Line, two: Line) -> None:
-    done = run_tool("recall", "lot", "L1", "--show", "asked")
-    done.expect(0, "\nL1,running desk", "\nL2,running desk", "the lines are L1, L2: ")
+    done = run_tool("recall", "lot", "L1")
+    done.expect(0, "L1: no archives yet", "L2: no archives yet", "the lines are L1, L2: ")
 
 
 @pytest.mark.parametrize("words", [["ops", "seal", "L1"], ["recall", "lot", "L1"], ["watch"]])

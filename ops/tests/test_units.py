@@ -95,7 +95,9 @@ def test_an_idle_clock_begins_and_ends_with_its_desk(desk: str, timer: str) -> N
     assert " --url http://127.0.0.1:${port} " in call
     if desk == "tracedesk.service":
         assert "Unit=tracedesk-clock@desk.service" in timers
-        assert any(line.startswith("ExecStart=") and " --port 8080 " in line for line in desks)
+        assert any(
+            line.startswith("ExecStart=") and line.endswith(" --port 8080") for line in desks
+        )
     else:
         assert "EnvironmentFile=/etc/tracedesk/%i.conf" in desks
 

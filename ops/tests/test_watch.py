@@ -9,9 +9,11 @@ import time
 from typing import Any, Iterator, Optional
 
 import pytest
+from lab.programs import auditor
 from lab.tools import Word, run_tool
 from lab.waits import wait_for
 from lab.watched import COME_AGAIN, ODD, Metrics, Watched, expect, read, watched
+from tracedesk_ops import sealing
 
 pytestmark = [pytest.mark.needs("nginx", "openssl"), pytest.mark.xdist_group("watch")]
 
@@ -64,6 +66,31 @@ def test_reports_are_those_of_the_program(its: Watched) -> None:
         least_floor_life_seconds__M2=None,
         least_slot_pieces__M2=0,
     )
+
+
+def test_figures_of_the_book_are_those_of_the_line(its: Watched) -> None:
+    sealing.seal(its.line, auditor(pathlib.Path(its.site.program), its.room).audit)
+    for _ in range(2):  # a look asks the desk about the newest sealed file, and makes no entry
+        found = its.metrics()
+        expect(found, book_entries=0, book_open=0, book_undecided=0, watch_source_up__book=1)
+        assert found["backup_commands"] > 0
+    shutil.rmtree(its.line.sealed)
+    shutil.rmtree(its.line.lost)
+    for reel in ("K-8", "K-9"):
+        its.site.say("MaterialsLoaded", {"Machine": "M1", "Slot": "1", "Reel": reel}, 0)
+    said = json.dumps({"Of": 1, "Became": "nothing", "By": "A", "Reason": "typed"})
+    path = "/line/decisions"
+    assert its.site.asked("POST", path, "office", said)[0] == 401
+    assert its.site.asked("POST", path, "op", said, Content_Type="text/csv")[0] == 415
+    assert its.site.asked("POST", path, "op", said, Origin="https://elsewhere.example")[0] == 403
+    its.site.drained.touch()
+    assert its.site.asked("POST", path, "op", said)[0] == 503
+    its.site.drained.unlink()
+    assert its.site.asked("POST", path, "op", said)[::2] == (200, '{"Answer":"Decided","Entry":3}')
+    for path in ("state?machine=M1", "book?after=0", "undecided", "counts"):
+        assert its.site.asked("GET", f"/line/{path}")[0] == 401
+        assert its.site.asked("GET", f"/line/{path}", "office")[0] == 200
+    expect(its.metrics(), book_entries=3, book_open=1, book_undecided=0, watch_source_up__book=1)
 
 
 def test_sizes_are_those_of_the_files(its: Watched) -> None:

@@ -52,7 +52,10 @@ class RestorePlan:
         elif self.taken_off:
             lines.append(f"lost/ keeps no desk: the file has all of its {self.commands} commands")
         lines += [
-            f"{its.commands} commands of {its.source} have to be sent again, the first of"
+            f"{its.entries} entries of the book of {its.file.name} are missing: hold and decide"
+            " again what still counts"
+            if its.entries
+            else f"{its.commands} commands of {its.source} have to be sent again, the first of"
             f" {catalogue.spelled(its.since)}"
             for its in self.lacked
         ]
@@ -132,8 +135,9 @@ def restore(line: LineFolder, its: RestorePlan, audit: sealing.Audit) -> None:
         plant.want_room(work, size, f"{its.file.path} and a copy of the desk")
         shutil.copyfile(its.file.path, new)
         new.chmod(0o600)
-        if (commands := audit(new)) != its.file.commands:
-            raise NotChanged(f"the audit of {its.file.path} says {commands}: take another file")
+        if (lawful := audit(new)) != (its.file.commands, its.file.entries):
+            said = f"{lawful.commands} commands and {lawful.entries} entries"
+            raise NotChanged(f"the audit of {its.file.path} says {said}: take another file")
         plant.without_log(new)
         files.keep(new)
         file = no_more_lost(line, its.file)

@@ -17,6 +17,8 @@ from tracedesk_ops.lineage import Lineage
 
 Path = pathlib.Path
 
+OTHERS_FIRST = "book OthersFirst"  # docs/line.md, "A file that nobody serves"
+
 
 def hindrances(desk: Path, audit: sealing.Audit) -> list[str]:
     """Why a desk can't run; nothing if it can, or runs. The audit is asked only if nothing else is
@@ -50,6 +52,8 @@ def unlawful(desk: Path, audit: sealing.Audit) -> Iterator[str]:
             audit(copy)
         except plant.Fault as fault:
             remedy = f"look at the disk (journalctl --dmesg), and {outside.RESTORE}"
+            if OTHERS_FIRST in str(fault):
+                remedy = "drop the tables and views that somebody added"
             yield f"not lawful: {str(fault).replace(str(copy), f'a copy of {desk}')}: {remedy}"
 
 

@@ -70,7 +70,7 @@ FAULTS = (*plant.FAULTS, Busy, NotALine, desk_tables.NotCarried)
 
 
 def audit_of(asked: argparse.Namespace) -> sealing.Audit:
-    return plant.Program(asked.program, asked.line.desk, is_low=True).audit
+    return plant.Program(asked.auditor, asked.line.desk, is_low=True).audit
 
 
 def seal(asked: argparse.Namespace) -> int:
@@ -146,7 +146,7 @@ def rolled_over(line: LineFolder, asked: argparse.Namespace, service: Service) -
     wanted = successor.Wanted(asked.at, asked.with_board_in_work)
     audit = audit_of(asked)
 
-    def audited(file: Path) -> int:
+    def audited(file: Path) -> plant.Lawful:
         rollover.can_be_left(file, wanted.is_in_work)
         return audit(file)
 
@@ -154,7 +154,8 @@ def rolled_over(line: LineFolder, asked: argparse.Namespace, service: Service) -
         return sealing.sealed_in(line, work, audited)
 
     def new(work: Path, is_low: bool) -> rollover.NewDesk:
-        return successor.Successor(work, wanted, asked.program, asked.chain, is_low)
+        names = asked.program, asked.chain, asked.auditor
+        return successor.Successor(work, wanted, names, is_low)
 
     check.want_one_name(line.desk)
     return rollover.roll_over(line, service, made, new, wanted.has_options())
@@ -256,9 +257,11 @@ def words() -> argparse.Namespace:
     except places.NotSetUp as fault:
         reader.error(str(fault))
     asked = options.find_program(reader, parsed(reader))
-    asked.chain = plant.chain_of(asked.program)
+    asked.chain, asked.auditor = plant.chain_of(asked.program), plant.line_of(asked.program)
     if asked.subcommand == "rollover" and not (asked.chain or asked.due):
         reader.error(f"there is no tracedesk-chain next to {asked.program}: CHAIN names it")
+    if not (asked.auditor or getattr(asked, "due", False)):
+        reader.error(f"there is no tracedesk-line next to {asked.program}: LINE names it")
     return asked
 
 

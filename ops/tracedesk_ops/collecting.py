@@ -4,12 +4,18 @@
 """
 from __future__ import annotations
 
+import csv
 import datetime
+import http.client
 import json
 import pathlib
+from collections.abc import Iterable
 from typing import Any
 
-from tracedesk_ops import files, inboxes, untraced
+from tracedesk import Desk
+from tracedesk_ops import contradictions, entries, files, inboxes, untraced
+
+SECONDS = 5.0  # for an answer of a desk
 
 
 def collect(archive: pathlib.Path) -> tuple[list[untraced.Record], int, list[str]]:
@@ -72,14 +78,36 @@ def shown(record: untraced.Record) -> dict[str, Any]:
     return {**found, **{name: record.told[name] for name in more}}
 
 
-def write_status(folder: pathlib.Path, records: list[untraced.Record]) -> None:
-    """Writes what the station's screens read: what is undecided, and the ids of what was decided
-    last.
+def contradicted(port: int) -> list[dict[str, Any]]:
+    """The same of the boards whose machine names another reel, by the book of the desk on this
+    port; none while it doesn't answer, or has no book.
+    """
+    try:
+        with Desk(f"http://127.0.0.1:{port}", timeout=SECONDS) as desk:
+            status, body, _ = desk.once("GET", "/line/undecided", None, {"Connection": "close"})
+        book = entries.told(body.decode())[0] if status == 200 else []
+    except (OSError, ValueError, LookupError, http.client.HTTPException, csv.Error):
+        return []
+    return [
+        {**shown(record), "Slot": it.slot}
+        for it in book
+        if it.kind == contradictions.DIFFERS
+        for record in contradictions.records_of(f"entry {it.n}", it, [contradictions.said_of(it)])
+    ]
+
+
+def write_status(
+    folder: pathlib.Path,
+    records: list[untraced.Record],
+    more: Iterable[dict[str, Any]] = (),
+) -> None:
+    """Writes what the station's screens read: what is undecided, with more that is, and the ids of
+    what was decided last.
     """
     told = {
         "At": now(),
         "Decided": list(untraced.decisions(records))[-untraced.MOST_DECIDED :],
-        "Undecided": [shown(record) for record in untraced.undecided(records)],
+        "Undecided": [*map(shown, untraced.undecided(records)), *more],
         "Version": 1,
     }
     files.put(pathlib.Path(folder) / untraced.STATUS, json.dumps(told) + "\n", 0o644)

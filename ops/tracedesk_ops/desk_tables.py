@@ -110,7 +110,7 @@ class DeskTables:
         self.known = known(database, begun)
         self.unknown = 0  # older ones
         its = {name for name in names if not name.startswith("sqlite_")}
-        self.of_others = sorted(its - {*TABLES, "version", "placement", "found"})
+        self.of_others = sorted(its - {*TABLES, "version", "placement", "found", sealed.BOOK.table})
 
     def read_reels(self, rows: Callable[[str], list[Any]]) -> None:
         """Reels with pieces, where they are, spent ones, and boards in work."""

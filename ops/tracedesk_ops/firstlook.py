@@ -23,7 +23,7 @@ class Line(NamedTuple):
 class Question(NamedTuple):
     """What is asked: `kind` is lot, board, reel, or reels, a set of them whose `name` is a title. A
     lot may be asked for its pieces of one part. `within` is by how many pieces a label may be
-    wrong.
+    wrong, and `as_of` the minute until which a line without its desk has to be known.
     """
 
     kind: str
@@ -31,6 +31,7 @@ class Question(NamedTuple):
     part: str = ""
     reels: tuple[str, ...] = ()
     within: int = 0
+    as_of: int | None = None
 
     def names(self) -> tuple[str, ...]:
         """The names that are asked for; of a set of reels perhaps none."""
@@ -40,7 +41,8 @@ class Question(NamedTuple):
         """The question as a certificate has it."""
         part = {"part": self.part} if self.part else {}
         within = {"within": f"{self.within} pieces of a splice"} if self.within else {}
-        return {"kind": self.kind, "name": self.name, **part, **within}
+        as_of = {} if self.as_of is None else {"as_of": catalogue.spelled(self.as_of)}
+        return {"kind": self.kind, "name": self.name, **part, **within, **as_of}
 
     def words(self, listed: pathlib.Path) -> list[str]:
         """The words of tracedesk-chain; a set of reels is in this file."""

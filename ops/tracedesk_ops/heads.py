@@ -62,10 +62,11 @@ def message(uid: str) -> str:
 
 def question(uid: str, minute: int = 0) -> str:
     """A message that every desk refuses, and which tells whether it has accepted the UniqueID, or
-    whether the minute is too far ahead of it: it unloads a slot that no sheet names.
+    whether the minute is too far ahead of it: it seals a reel that nobody has. Such a refusal is no
+    entry of the line's book.
     """
-    body = {"Machine": f"none-{secrets.token_hex(16)}", "Slot": "-"}
-    return stored.line(uid, model.SOURCE, minute, "MaterialsUnloaded", body)
+    body = {"Reel": f"none-{secrets.token_hex(16)}"}
+    return stored.line(uid, model.SOURCE, minute, "ReelSealed", body)
 
 
 def give(port: int, known: str, uids: list[str]) -> None:

@@ -19,7 +19,7 @@ import sqlite3
 from collections.abc import Callable, Mapping, Sequence
 from typing import NamedTuple
 
-from tracedesk_ops import catalogue, sealed
+from tracedesk_ops import catalogue, entries, sealed
 from tracedesk_ops.line import LineFolder
 from tracedesk_ops.sealed import FilesFault, Sealed
 
@@ -40,6 +40,19 @@ FOUND = """
         AND there.own = wanted.own AND there.command = wanted.command)"""
 LEFT = """
     SELECT file, source, count(*), min(minute) FROM wanted GROUP BY file, source ORDER BY 1, 2"""
+# The same of the book: what an entry says, wherever it is and whatever number it has.
+SAYS = ", ".join(entries.SAYS)
+ENTRIES = f"CREATE TEMP TABLE entry ({SAYS}, file, PRIMARY KEY ({SAYS})) WITHOUT ROWID"
+WANT_ENTRIES = f"""
+    INSERT OR IGNORE INTO entry SELECT {SAYS}, ? FROM other.book
+    WHERE kind NOT IN ('{"', '".join(entries.OF_THE_FILE)}')"""
+FOUND_ENTRIES = f"DELETE FROM entry WHERE ({SAYS}) IN (SELECT {SAYS} FROM other.book)"
+LEFT_ENTRIES = "SELECT file, '', 0, 0, count(*) FROM entry GROUP BY file"
+CARRIED_OTHERWISE = f"""
+    SELECT min(n) FROM main.book its WHERE of > 0 AND kind <> '{entries.DECISION}' AND NOT EXISTS
+        (SELECT 1 FROM other.book old WHERE old.n = its.of AND ({SAYS}) = ({{}}))""".format(
+    ", ".join(f"its.{name}" for name in entries.SAYS)
+)
 
 
 class NoNewest(FilesFault):
@@ -69,14 +82,20 @@ class Forked(FilesFault):
 
 
 class Lacked(NamedTuple):
-    """What a file has of one source, and no file of the chain has."""
+    """What a file has of one source, or in its book, and no file of the chain has."""
 
     file: Path
     source: str
     commands: int
     since: int  # the minute of the first of them
+    entries: int = 0
 
     def text(self) -> str:
+        if self.entries:
+            return (
+                f"{self.entries} entries of the book are in {self.file}, and no file of the chain"
+                " has them: look at them, and hold and decide again what still counts"
+            )
         return (
             f"{self.commands} commands of {self.source} are in {self.file}, the first of"
             f" {catalogue.spelled(self.since)}, and no file of the chain has them: have that sender"
@@ -104,6 +123,7 @@ def of(line: LineFolder) -> Lineage:
     try:
         members = chain(files, lost)
         lacked = lacking(members, [*lost, *files])
+        faults += filter(None, map(carried_otherwise, members, members[1:]))
     except FilesFault as fault:
         faults.append(str(fault))
     return Lineage(files, lost, members, lacked, faults)
@@ -208,26 +228,45 @@ def superfluous(files: Sequence[Sealed], lost: Sequence[Sealed] = ()) -> list[Se
     return [file for file in order[:-KEPT] if file not in members and file.digits not in named]
 
 
+def carried_otherwise(older: Sealed, newer: Sealed) -> str:
+    """What is wrong with the entries that a file carries on of the one from which it was begun."""
+    try:
+        with sealed.opened(newer.path) as database, sealed.attached(database, older.path):
+            if not older.entries or not newer.entries:
+                return ""
+            ((number,),) = database.execute(CARRIED_OTHERWISE).fetchall()
+    except sqlite3.Error as fault:
+        raise sealed.Damaged(f"{newer.path} and {older.path} can't be compared: {fault}") from fault
+    if number is None:
+        return ""
+    return f"{newer.path} carries entry {number} of its book as {older.path} doesn't have it"
+
+
 # --- Loss
 
 
 def lacking(members: Sequence[Sealed], others: Sequence[Sealed]) -> list[Lacked]:
     """What senders told the other files and no file of the chain has: by each command's UniqueID,
-    source, own minute and text.
+    source, own minute and text, and by all that an entry of the book says.
     """
     digits = {file.digits for file in members}
     try:
         with sealed.opened(members[-1].path) as database:
-            database.execute(SAID)
+            for table in (SAID, ENTRIES):
+                database.execute(table)
             for place, file in enumerate(others):
                 if file.digits not in digits:
                     with sealed.attached(database, file.path):
                         begun = sealed.begun_with(database, file.begun, "other")
                         database.execute(WANT, [place, begun])
+                        if file.entries:
+                            database.execute(WANT_ENTRIES, [place])
             for file in reversed(members):
                 with sealed.attached(database, file.path):
                     database.execute(FOUND)
-            rows = database.execute(LEFT).fetchall()
+                    if file.entries:
+                        database.execute(FOUND_ENTRIES)
+            rows = [*database.execute(LEFT).fetchall(), *database.execute(LEFT_ENTRIES).fetchall()]
     except sqlite3.Error as fault:
         raise sealed.Damaged(f"what the chain lacks can't be found: {fault}") from fault
     return sorted(Lacked(others[row[0]].path, *row[1:]) for row in rows)

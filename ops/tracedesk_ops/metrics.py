@@ -16,6 +16,9 @@ tracedesk_service_restarts_total counter How often systemd started the service a
 tracedesk_overdue_pieces gauge Pieces that were placed past their floor life: rows of the report /overdue.
 tracedesk_least_floor_life_seconds gauge Least floor life left of a reel on the machine, whole minutes as of the desk minute, by the report /slots. None where no reel there has a limit.
 tracedesk_least_slot_pieces gauge Fewest pieces on a slot of the machine, by the report /slots. 0 where a slot of the sheet that setup.json names has none, by /kit.
+tracedesk_book_entries gauge Entries of the line's book: what was refused or can't be read, and what people decided, held and released.
+tracedesk_book_open gauge Entries of the book that are open: each stops its machine.
+tracedesk_book_undecided gauge Entries of the book that wait for a decision.
 tracedesk_file_bytes gauge Size of the desk's file without its log.
 tracedesk_log_bytes gauge Size of the log beside the desk's file.
 tracedesk_disk_free_bytes gauge Bytes free on the disk of the desk's file.

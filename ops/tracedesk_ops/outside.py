@@ -15,6 +15,8 @@ from tracedesk_ops import copies
 ROOM_OF_AN_OPENING = 65_536  # bytes that an opening may write to its log
 RIGHTS, NO_ROOM, OTHER_NAME, JOURNAL = "no permission", "no room", "another name", "half written"
 NO_FILE, IN_USE = "no file", "in use"
+# programs that have a desk open, as they are installed or built
+OWN = ("(tracedesk)", "(tracedesk-line)", "(tracedesk_line)")
 RESTORE = "restore the newest sealed file"
 REMEDIES = {  # by the cause
     RIGHTS: "give the file and its log back to the owner of their folder, by chown",
@@ -53,7 +55,7 @@ def in_use(file: str) -> Iterator[Finding]:
     """Which programs have a lock of the file that keeps the desk's from it, unless one is that."""
     with open(file, "rb") as it:
         found = openers(file) if copies.is_locked(it, fcntl.F_WRLCK) else []
-    if found and not any(it.endswith("(tracedesk)") for it in found):
+    if found and not any(it.endswith(OWN) for it in found):
         yield Finding(IN_USE, f"{', '.join(found)} has {file} open")
 
 

@@ -16,7 +16,7 @@ import subprocess
 import sys
 import time
 from collections.abc import Callable, Iterator
-from typing import Any
+from typing import Any, NamedTuple
 
 from tracedesk_ops import catalogue, copies, files, places, sealed
 
@@ -93,6 +93,11 @@ def want_room(folder: str | pathlib.Path, size: float, what: str) -> None:
 def chain_of(program: str) -> str | None:
     """tracedesk-chain, or none."""
     return next_to(program, "chain")
+
+
+def line_of(program: str) -> str | None:
+    """tracedesk-line, or none."""
+    return next_to(program, "line")
 
 
 def next_to(program: str, word: str) -> str | None:
@@ -261,8 +266,15 @@ def without_log(file: pathlib.Path) -> None:
         pathlib.Path(f"{file}{tail}").unlink(missing_ok=True)
 
 
+class Lawful(NamedTuple):
+    """How many rows each list of a lawful file has."""
+
+    commands: int
+    entries: int
+
+
 class Program:
-    """The program, run as the owner of the desk's file where root calls, so that nothing beside
+    """A program, run as the owner of the desk's file where root calls, so that nothing beside
     that file is root's. A run ends with the tool, also where that is killed: else it would have a
     file open that the next call of the tool wants.
     """
@@ -292,23 +304,32 @@ class Program:
             os._exit(1)
 
     def run(self, *words: object, **how: Any) -> subprocess.CompletedProcess[str]:
-        return subprocess.run(
-            [*self.before, self.program, *map(str, words)],
-            preexec_fn=self.end_with_the_tool,
-            **self.how,
-            **how,
-        )
+        return subprocess.run(self.words(words), **self.start(how))
 
-    def audit(self, file: pathlib.Path) -> int:
-        """How many commands a lawful desk has; a Fault says what else the audit found."""
+    def started(self, *words: object) -> "subprocess.Popen[str]":
+        """A run that goes on; what it says on standard error is kept."""
+        streams = {"stdin": subprocess.DEVNULL, "stdout": subprocess.DEVNULL}
+        how = {**streams, "stderr": subprocess.PIPE, **TEXT}
+        return subprocess.Popen(self.words(words), **self.start(how))
+
+    def words(self, words: tuple[object, ...]) -> list[str]:
+        return [*self.before, self.program, *map(str, words)]
+
+    def start(self, how: dict[str, Any]) -> dict[str, Any]:
+        return {"preexec_fn": self.end_with_the_tool, **self.how, **how}
+
+    def audit(self, file: pathlib.Path) -> Lawful:
+        """How many commands and entries a lawful file has, by tracedesk-line; a Fault says what
+        else the audit found.
+        """
         done = self.run(
             "audit", "--db", file, stdin=subprocess.DEVNULL, capture_output=True, **TEXT
         )
-        lawful = re.fullmatch(r"lawful (\d+)\n", done.stdout)
+        lawful = re.fullmatch(r"lawful (\d+) book (\d+)\n", done.stdout)
         if done.returncode or not lawful:
             said = " ".join((done.stdout + done.stderr).split())
             raise Fault(
                 f"the audit of {file} ended with status {done.returncode}: {said};"
                 " operations-faults.html, 'What is said, and what to do'"
             )
-        return int(lawful[1])
+        return Lawful(int(lawful[1]), int(lawful[2]))

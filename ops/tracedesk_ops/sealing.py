@@ -20,7 +20,7 @@ from tracedesk_ops.lineage import Lineage
 from tracedesk_ops.sealed import FilesFault, Sealed
 
 Path = pathlib.Path
-Audit = Callable[[Path], int]  # how many commands a lawful file has; else a plant.Fault
+Audit = Callable[[Path], plant.Lawful]  # a plant.Fault if a file is not lawful
 
 
 class NotSealed(FilesFault):
@@ -63,14 +63,17 @@ def copied(desk: Path, to: Path, audit: Audit) -> None:
 def want_lawful(copy: Path, audit: Audit) -> None:
     """Has a copy audited, with all that its log has."""
     copies.fold(copy)
-    commands = audit(copy)
+    lawful = audit(copy)
     plant.without_log(copy)
     with sealed.opened(copy) as database:
-        found = sealed.size(database, sealed.HISTORY)
-    if not found:
+        found = plant.Lawful(*(sealed.size(database, its) for its in sealed.LISTS))
+    if not found.commands:
         raise NotSealed("it has accepted nothing, so there is nothing to seal")
-    if found != commands:
-        raise NotSealed(f"the copy has {found} commands, and its audit says {commands}")
+    if found != lawful:
+        raise NotSealed(
+            f"the copy has {found.commands} commands and {found.entries} entries of its book, and"
+            f" its audit says {lawful.commands} and {lawful.entries}"
+        )
 
 
 def put(line: LineFolder, made: Path) -> Sealed:

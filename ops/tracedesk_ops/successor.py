@@ -1,7 +1,8 @@
 """The desk that goes on where a sealed file ends: carry.py says its messages, tracedesk-chain
-compares it with that file, and at last it gets what the old desk has taken since.
+compares it with that file, entries.py carries on the book, which tracedesk-line compares, and at
+last it gets what the old desk has taken since.
 
-    new = Successor(work, wanted, program, chain, is_low=True)
+    new = Successor(work, wanted, (program, chain, line), is_low=True)
     new.begin(file)          # a plant.Fault if both don't answer alike
     new.take(file, end)      # a plant.Fault if it doesn't take that as the old desk did
 """
@@ -17,7 +18,8 @@ import subprocess
 from collections.abc import Iterable, Iterator, Sequence
 from typing import Any, NamedTuple
 
-from tracedesk_ops import carry, copies, desk_tables, model, plant, sealed, stored
+from tracedesk_ops import carry, copies, desk_tables, entries, model, plant, private, sealed
+from tracedesk_ops import stored
 from tracedesk_ops.sealed import Sealed
 
 Path = pathlib.Path
@@ -69,11 +71,12 @@ class Successor:
     """The new desk, in a folder of unfinished work."""
 
     def __init__(
-        self, work: Path, wanted: Wanted, program: str, chain: str, is_low: bool = False
+        self, work: Path, wanted: Wanted, names: Sequence[str], is_low: bool = False
     ) -> None:
         self.work, self.wanted = work, wanted
-        self.program, self.chain = (plant.Program(it, work, is_low) for it in (program, chain))
-        self.path, self.old = work / "new", work / "old"
+        self.program, self.chain, self.line = (plant.Program(it, work, is_low) for it in names)
+        self.path, self.old = work / "new", work / "old"  # the second is a copy, to be asked
+        self.book: entries.Carrying | None = None
 
     def begin(self, file: Sealed) -> None:
         """Makes the new desk, and says what it doesn't know and that both are alike."""
@@ -81,10 +84,13 @@ class Successor:
         at = self.wanted.at
         is_earlier = at is not None and at < carried.minute
         carrier = self.made(carried, file, None if is_earlier else at)
+        shutil.copyfile(file.path, self.old)
+        lists = private.lists_of(self.line, self.old) if file.entries else private.EMPTY
         alike = self.compared(carried, file)
         if is_earlier:  # no desk goes back in time: the same messages, each so many minutes earlier
             carrier = self.made(carried, file, at)
-        for note in (*carrier.notes(), f"tracedesk-chain says of both desks: {alike}"):
+        notes = carrier.notes(), [f"tracedesk-chain says of both desks: {alike}"]
+        for note in (*itertools.chain(*notes), self.carried_on(file, lists)):
             plant.tell(note)
 
     def made(self, carried: desk_tables.DeskTables, file: Sealed, at: int | None) -> carry.Carrier:
@@ -100,7 +106,7 @@ class Successor:
                 if json.loads(answer)["Answer"] != "Accepted":
                     raise plant.Fault(f"the new desk answers {answer} to {str(line)[:300]}")
                 answered += 1
-        if answered != len(lines) or self.program.audit(self.path) != len(lines):
+        if answered != len(lines):
             raise plant.Fault(
                 f"the new desk answered {answered} of {len(lines)} messages: is the disk full?"
             )
@@ -138,7 +144,6 @@ class Successor:
         what it compares for writing, so it gets a copy of the sealed file; and that has taken the
         commands for which the options stand.
         """
-        shutil.copyfile(file.path, self.old)
         if asked := self.said_of_options(carried, file.digits):
             self.fed(self.old, asked)
         how = {"stdin": subprocess.DEVNULL, "capture_output": True, **plant.TEXT}
@@ -160,23 +165,75 @@ class Successor:
             messages.say(self.wanted.at or 0, "ClockSet")
         return [*messages.lines]
 
+    # --- The book
+
+    def carried_on(self, file: Sealed, old: private.Lists) -> str:
+        """Gives the new desk its book, in which the same entries stand as in that of the file, and
+        stop the same machines; in words.
+        """
+        name = {"File": file.path.name, "Sha256": file.sha256}
+        commands = len(rows_after(self.path, 0))
+        self.book = entries.Carrying(entries.of(file.path), old.standing, name, commands)
+        book = self.book.with_since([], {})
+        self.keep(book)
+        said = f"{len(book) - 1} of {file.entries} entries of the book are carried over"
+        if not file.entries:
+            return said
+        for path in (self.old, *copies.logs_of(self.old)):
+            path.unlink()
+        shutil.copyfile(self.path, self.old)
+        numbers = {its.of: its.n for its in book[1:]}
+        # what closed an undecided entry is not in the new history, so it stops its machine again
+        again = {its.n for its in book if its.kind in entries.REOPENED}
+        again -= {numbers.get(n, 0) for n, state in old.standing.items() if state == entries.OPEN}
+        new = private.lists_of(self.line, self.old)
+        if new.reopened(again) != old.renumbered(numbers).reopened(again):
+            raise plant.Fault(
+                "the new desk is not taken: by tracedesk-line other entries are open or undecided"
+                " there, stop other machines, or hold other reels and lots"
+            )
+        return said
+
+    def keep(self, book: Sequence[entries.BookEntry]) -> None:
+        """Writes the book, and has both lists audited."""
+        entries.write(self.path, book)
+        wanted = plant.Lawful(len(rows_after(self.path, 0)), len(book))
+        if (lawful := self.line.audit(self.path)) != wanted:
+            raise plant.Fault(f"the new desk has {wanted}, and its audit says {lawful}")
+        plant.without_log(self.path)
+
+    # --- What came meanwhile
+
     def take(self, file: Sealed, end: Path) -> None:
         """Gives the new desk what the old one has behind the sealed file at its end. Nothing
         runs by now, so this is in a hurry.
         """
-        self.program.before = ()
+        for program in (self.program, self.line):
+            program.before = ()
         own = rows_after(self.path, 0)
         known = {row.uid for row in own if row.source == model.SOURCE}
-        tail = [row for row in rows_after(end, file.commands) if row.uid not in known]
-        if not tail:
-            return
+        rows = rows_after(end, file.commands)
+        tail = [row for row in rows if row.uid not in known]
+        if tail:
+            self.take_commands(tail, len(own))
+        since = entries.of(end, file.entries)
+        if since and self.book:
+            is_new = (row.uid not in known for row in rows)
+            places = enumerate(itertools.accumulate(is_new, initial=len(own)), file.commands)
+            self.keep(self.book.with_since(since, dict(places)))
+        if tail or since:
+            plant.tell(
+                f"{len(tail):,} commands and {len(since):,} entries of the book came meanwhile: the"
+                " new desk has them"
+            )
+
+    def take_commands(self, tail: Sequence[StoredRow], begun: int) -> None:
         self.fed(self.path, [message(row) for row in tail])
         plant.without_log(self.path)
-        given = rows_after(self.path, len(own))
+        given = rows_after(self.path, begun)
         if given != tail:
             odd = next((pair for pair in zip(tail, given) if pair[0] != pair[1]), len(given))
             raise plant.Fault(
                 f"the new desk doesn't take the last {len(tail):,} commands as the old one did:"
                 f" {odd!r:.500}"
             )
-        plant.tell(f"{len(tail):,} commands came meanwhile: the new desk has them")

@@ -6,6 +6,7 @@ from typing import Callable
 
 from lab import ROOT
 from lab.desk import Desk, change
+from lab.programs import auditor
 from tracedesk_ops import check, plant
 
 MESSAGES = ROOT / "cases/tables_that_were_altered/messages.jsonl"  # each table has a row
@@ -49,8 +50,7 @@ class Checked:
 
         def asked() -> list[str]:
             with plant.as_owner(self.file):
-                program = plant.Program(str(self.program), self.file)
-                return check.hindrances(self.file, program.audit)
+                return check.hindrances(self.file, auditor(self.program, self.file).audit)
 
         return self.unchanged(asked)
 

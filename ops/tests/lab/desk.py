@@ -1,4 +1,4 @@
-"""A desk of the program: its file, and the service that serves it."""
+"""A desk of the program: its file, and the service that serves it, as tracedesk-line does."""
 import contextlib
 import http.client
 import json
@@ -19,7 +19,7 @@ from tracedesk_ops import copies, plant
 START = """#!/bin/sh
 ulimit -S -f unlimited
 exec > /dev/null 2>&1 < /dev/null
-setsid "{program}" serve --db "{file}" --port {port} --connections 1000000 &
+setsid "{program}" serve --db "{file}" --port {port} &
 echo $! > "{file}-pid"
 """
 STOP = 'kill $(cat "{file}-pid") || true'
@@ -41,7 +41,8 @@ class Desk:
         self.said, self.time = (0, messages.EPOCH)
 
     def write_start(self) -> None:
-        text = START.format(program=self.program, file=self.file, port=self.port)
+        serves = plant.line_of(str(self.program))
+        text = START.format(program=serves, file=self.file, port=self.port)
         self.start_script.write_text(text, encoding="utf-8")
         self.start_script.chmod(0o755)
 
@@ -114,6 +115,14 @@ class Desk:
         self.said += 1
         uid = uid or f"{self.file.name}-{self.said}"
         return self.post([messages.message(word, uid, time or self.time, **body)])[0]
+
+    def note(self, what: str, **said: Any) -> int:
+        """Decides, holds or releases; the number of the entry in the book."""
+        body = json.dumps({**said, "By": "A. Person", "Reason": "looked at"})
+        with self.link() as link:
+            link.request("POST", f"/line/{what}", body)
+            answer = json.loads(link.getresponse().read())
+        return int(answer["Entry"])
 
     def accept(self, *lines: bytes) -> None:
         """Posts messages, which the desk has to accept."""

@@ -8,12 +8,12 @@ import pathlib
 import shutil
 import sqlite3
 import sys
-from collections.abc import Callable, Iterator
+from collections.abc import Callable, Iterator, Sequence
 from unittest import mock
 
 from lab import files
 from lab.killed import Killed, killed_at
-from tracedesk_ops import copies, plant, rollover, sealed, sealing
+from tracedesk_ops import copies, entries, plant, rollover, sealed, sealing
 from tracedesk_ops.line import LineFolder
 
 Path = pathlib.Path
@@ -25,12 +25,25 @@ ACCEPT = """INSERT INTO accepted
     SELECT count(*) + 1, ?, 'S', 0, count(*) + 1, ?, '' FROM accepted"""
 
 
-def audit(file: Path) -> int:
+NOTE = """
+    INSERT INTO book SELECT count(*) + 1, (SELECT count(*) FROM accepted), ?, 'S', ?, '', '', '',
+        '', '', ?, '' FROM book"""
+
+
+def note(line: LineFolder, uid: str, kind: str = "work", of: int = 0) -> None:
+    """The desk's book gets an entry."""
+    with files.opened(line.desk) as database:
+        database.execute(entries.CREATE)
+        database.execute(NOTE, [kind, uid, of])
+
+
+def audit(file: Path) -> plant.Lawful:
     """Stands for the program's, which these files without rows of state would fail."""
     with sealed.opened(file) as database:
         numbers = [number for (number,) in database.execute("SELECT number FROM accepted")]
+        entries = sealed.size(database, sealed.BOOK)
     assert sorted(numbers) == list(range(1, len(numbers) + 1))
-    return len(numbers)
+    return plant.Lawful(len(numbers), entries)
 
 
 def line_of(folder: Path, *uids: str) -> LineFolder:
@@ -84,14 +97,19 @@ def killed_at_each_call(
 class Senders:
     """A desk's service, and what its senders say while it runs."""
 
-    def __init__(self, line: LineFolder, said: list[tuple[str, str]]) -> None:
+    def __init__(
+        self, line: LineFolder, said: list[tuple[str, str]], notes: Sequence[str] = ()
+    ) -> None:
         self.line, self.said, self.is_running, self.have_said = line, said, True, False
+        self.notes = notes
 
     def drain(self) -> None:
         self.have_said = True
         with files.opened(self.line.desk) as database:
             for said in self.said:
                 database.execute(ACCEPT, said)
+        for uid in self.notes:
+            note(self.line, uid)
 
     def stop(self) -> None:
         self.is_running = False
@@ -103,13 +121,21 @@ class Senders:
 
 
 class NewTables:
-    """The desk that goes on from a sealed file."""
+    """The desk that goes on from a sealed file. Of its book all refused work stands that nobody
+    decided about.
+    """
 
     def __init__(self, work: Path, is_low: bool) -> None:
         self.path = work / "new"
+        self.book: entries.Carrying | None = None
 
     def begin(self, file: sealed.Sealed) -> None:
         files.desk(self.path, mark=file.digits)
+        book = entries.of(file.path)
+        decided = {its.of for its in book if its.kind == entries.DECISION}
+        standing = {its.n for its in book if its.kind == "work"} - decided
+        self.book = entries.Carrying(book, standing, {"File": file.path.name}, 1)
+        entries.write(self.path, self.book.with_since([], {}))
 
     def take(self, file: sealed.Sealed, end: Path) -> None:
         with sealed.opened(end) as old:
@@ -117,11 +143,17 @@ class NewTables:
         with files.opened(self.path) as database:
             for row in rows:
                 database.execute(ACCEPT, row)
+        if self.book:
+            places = {file.commands + count: 1 + count for count in range(len(rows) + 1)}
+            since = entries.of(end, file.entries)
+            entries.write(self.path, self.book.with_since(since, places))
 
 
-def rolled_over(line: LineFolder, *said: tuple[str, str]) -> Senders:
-    """Rolls a line over, whose desk accepts this meanwhile: its UniqueIDs and texts."""
-    service = Senders(line, [*said])
+def rolled_over(line: LineFolder, *said: tuple[str, str], notes: Sequence[str] = ()) -> Senders:
+    """Rolls a line over, whose desk accepts this meanwhile: its UniqueIDs and texts; then its book
+    gets these entries.
+    """
+    service = Senders(line, [*said], notes)
 
     def made(work: Path) -> sealed.Sealed:
         sealing.copied(line.desk, work / "desk", audit)

@@ -160,7 +160,8 @@ class Histories(RuleBasedStateMachine):
             begun = sealed.begun_from(database)
         if begun != before.begun:
             assert self.known[begun].continues(before)
-            its.has = Lists(begun, said if self.known[begun] == before else ())
+            notes = self.known[begun].notes  # nobody decides about one, so all are carried
+            its.has = Lists(begun, said if self.known[begun] == before else (), notes)
         elif {uid for uid, _ in said} & uids:
             its.has = dataclasses.replace(before, commands=before.commands + said)
         after = {said for lists in self.history(its.has) for said in lists.commands}
@@ -180,9 +181,8 @@ class Histories(RuleBasedStateMachine):
         if not whole:
             return
         path, was = data.draw(st.sampled_from(whole), "file"), its.has
-        wanted = self.said([was, *there.values()]) - self.said(self.history(there[path]))
         plan = change.plan(self.line, sealed.read(path))
-        assert sum(lacked.commands for lacked in plan.lacked) == len(wanted)
+        self.expect_lacked(plan.lacked, [was, *there.values()], self.history(there[path]))
         self.known[plan.taken_off.removesuffix(sealed.SUFFIX)] = was
         its.has = there[path]
         with killed_at(kill, CALLS) if kill else contextlib.nullcontext():
@@ -195,6 +195,7 @@ class Histories(RuleBasedStateMachine):
         kept = [lists for folder in folders for lists in self.of_folder(folder).values()]
         for lists in (was, *there.values()):
             assert self.said([lists]) <= self.said([*kept, its.has]), "something is in no file"
+            assert noted([lists]) <= noted([*kept, its.has]), "an entry is in no file"
         if left_out is not None:
             self.sent_again(0, left_out)
             self.seal(0)
@@ -294,11 +295,16 @@ class Histories(RuleBasedStateMachine):
         self.expect_lacking(found, newest[0])
 
     def expect_lacking(self, found: lineage.Lineage, chain: History) -> None:
-        wanted = self.said([lists for lists in chain])
         folders = (self.line.sealed, self.line.lost)
         there = [has for folder in folders for has in self.of_folder(folder).values()]
-        lacked = self.said(there) - wanted
-        assert sum(its.commands for its in found.lacked) == len(lacked)
+        self.expect_lacked(found.lacked, there, chain)
+
+    def expect_lacked(
+        self, found: list[lineage.Lacked], there: list[Lists], chain: History
+    ) -> None:
+        lacked = self.said(there) - self.said(chain), noted(there) - noted(chain)
+        assert sum(its.commands for its in found) == len(lacked[0])
+        assert sum(its.entries for its in found) == len(lacked[1])
 
     @invariant()
     def is_recalled_exactly_or_says_what_is_missing(self) -> None:
@@ -314,8 +320,8 @@ class Histories(RuleBasedStateMachine):
         kept = [*there.values(), *self.of_folder(self.line.lost).values()]
         behind = [lists for one in (*kept, own[-1]) for lists in self.history(one)[:-1]]
         is_whole = all(lists in there.values() for lists in behind)
-        lacked = self.said(kept) - self.said(own)
-        assert bool(found.faults) == (not is_whole or bool(lacked)), f"it says {found.faults}"
+        is_lacking = bool(self.said(kept) - self.said(own) or noted(kept) - noted(own))
+        assert bool(found.faults) == (not is_whole or is_lacking), f"it says {found.faults}"
         if is_whole:
             assert [self.known[Path(row.file).stem] for row in found.archives] == own[:-1]
 
@@ -326,6 +332,10 @@ class Histories(RuleBasedStateMachine):
 
     def teardown(self) -> None:
         shutil.rmtree(self.room)
+
+
+def noted(those: list[Lists]) -> set[str]:
+    return {uid for lists in those for uid in lists.notes}
 
 
 def settings_of(sequences: int, **more: Any) -> Any:

@@ -4,7 +4,7 @@ from __future__ import annotations
 import dataclasses
 import pathlib
 
-from lab import files
+from lab import files, folders
 from tracedesk_ops import sealed
 from tracedesk_ops.line import LineFolder
 
@@ -12,14 +12,6 @@ Path = pathlib.Path
 Command = tuple[str, str]  # its UniqueID and its text
 
 CLOCK = "ClockSet"
-BOOK = """
-    CREATE TABLE IF NOT EXISTS book (n INTEGER PRIMARY KEY, after INTEGER NOT NULL,
-        kind TEXT NOT NULL, source TEXT NOT NULL, uid TEXT NOT NULL, machine TEXT NOT NULL,
-        slot TEXT NOT NULL, board TEXT NOT NULL, reel TEXT NOT NULL, word TEXT NOT NULL,
-        of INTEGER NOT NULL, told TEXT NOT NULL) STRICT"""
-NOTE = (
-    "INSERT INTO book SELECT count(*) + 1, 0, 'work', 'S', ?, '', '', '', '', '', 0, '' FROM book"
-)
 ACCEPT = """
     INSERT INTO accepted SELECT count(*) + 1, ?, 'S', 0, count(*) + 1, ?, '' FROM accepted"""
 
@@ -69,6 +61,5 @@ class Host:
         self.has = dataclasses.replace(self.has, commands=self.has.commands + commands)
 
     def note(self, uid: str) -> None:
-        self.change(BOOK)
-        self.change(NOTE, uid)
+        folders.note(self.line, uid)
         self.has = dataclasses.replace(self.has, notes=(*self.has.notes, uid))

@@ -7,6 +7,7 @@ from typing import Any, Callable, Iterable, Mapping, Optional
 
 from lab import messages
 from lab.desk import Desk, rows_of
+from lab.programs import others_of
 from lab.tools import Ended, Word, run, run_tool, tool
 from lab.waits import PATIENCE
 from tracedesk_ops import around, catalogue, lineage, sealed
@@ -68,9 +69,7 @@ class Line(Desk):
         env: Optional[Mapping[str, str]] = None,
     ) -> Ended:
         """Calls a tool."""
-        # of `wrapped`: tracedesk-chain lies next to it
-        own = {"CHAIN": str(program.with_name("tracedesk-chain"))} if program else {}
-        return run(words, env={**own, **(env or {})})
+        return run(words, env={**(others_of(program) if program else {}), **(env or {})})
 
     def recall_words(self) -> list[Word]:
         return ["--line", self.name, self.folder]

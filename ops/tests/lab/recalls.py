@@ -15,6 +15,7 @@ from lab.world import World
 from tracedesk_ops import catalogue, chains, files
 from tracedesk_ops.firstlook import Line, Question
 from tracedesk_ops.recalls.recall import Recall
+from tracedesk_ops.recalls.surveyed import Surveyed
 from tracedesk_ops.recalls.tables import tables_of
 
 TRACE = ("board", "designator", "part", "reel", "machine", "slot", "overdue")
@@ -153,7 +154,7 @@ class Asking:
         question = Question(kind, name)
         asker = Meanwhile(str(self.program), question.words(self.room), meanwhile)
         with files.Room() as room:
-            its = Recall(question, self.asked[:lines], asker, pathlib.Path(room))
+            its = Recall(question, Surveyed(self.asked[:lines], pathlib.Path(room)), asker)
             its.ask()
         return its
 

@@ -4,6 +4,7 @@ import os
 import pathlib
 
 import station_site
+from tracedesk_ops import plant
 
 SYSTEMCTL = "#!/bin/sh\ncat {0}/systemctl.says\nexit $(cat {0}/systemctl.status)\n"
 WELL = "LoadState=loaded\nActiveState=active\nNRestarts=3\n"
@@ -32,6 +33,14 @@ class Site(station_site.Site):
         systemctl.write_text(SYSTEMCTL.format(self.room))
         systemctl.chmod(0o755)
         self.systemd_says()
+
+    def start_desk(self, connections: int = 1_000_000) -> None:
+        """As the packaged unit serves it: by tracedesk-line."""
+        own, self.program = self.program, str(plant.line_of(self.program))
+        try:
+            super().start_desk(connections)
+        finally:
+            self.program = own
 
     def systemd_says(self, text: str = WELL, status: int = 0) -> None:
         (self.room / "systemctl.says").write_text(text)

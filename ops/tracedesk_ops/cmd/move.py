@@ -28,6 +28,7 @@ A refusal is on standard error, with the remedy:
   UnknownReel   the old desk has no reel of that name
   ReelEmpty     no piece is left on it
   ReelMounted   it is on a slot: take it off first
+  ReelHeld      somebody holds it or its lot at the old desk, which the new one wouldn't know
   ReelExists    the new desk had a reel of that name, and takes none a second time
   ClockAhead    the new desk's clock is past the minute at which the reel would begin there
   NoLabel       it is of level 6, and the minutes on its label are not said
@@ -50,7 +51,7 @@ from typing import Any, NamedTuple
 from tracedesk import Desk, GivenUp, NotTaken, NotThere, answers
 from tracedesk import words as reports
 from tracedesk.limits import FURTHEST_AHEAD
-from tracedesk_ops import catalogue, desks, heads, options, places, plant, stored
+from tracedesk_ops import catalogue, desks, entries, heads, options, places, plant, stored
 from tracedesk_ops.desk_tables import FLOOR_LIFE
 
 DONE, NO, NO_ANSWER, SEE_TO_IT = 0, 1, 3, 4
@@ -145,6 +146,23 @@ def at_rest(old: Desk, asked: argparse.Namespace, now: int) -> Move:
     return Move(card, asked.called or card.reel, asked.label, out, now)
 
 
+def want_free(old: Desk, card: reports.ReelCard, at: str) -> None:
+    """A NotMoved if somebody holds the reel or its lot. A desk of `tracedesk serve` has no book."""
+    target = "/line/book?after=0"
+    status, body, _ = old.until(lambda: (old.once("GET", target, None, {}), "", 0.0))
+    if answers.read(body) == answers.NotFound("Path"):
+        return
+    if status != http.client.OK:
+        raise ValueError(f"{at} answers {target} with {status}: {body[:200]!r}")
+    held = entries.held(entries.told(body.decode())[0])
+    for stock in ((card.reel, ""), ("", card.lot)):
+        if number := held.get(stock):
+            raise NotMoved(
+                f"ReelHeld: by entry {number} of the book of {at} {''.join(stock)} is held: release"
+                " it there first, and hold it at the new desk"
+            )
+
+
 def want_new(new: Desk, its: Move, at: str) -> None:
     """Lets the new desk know the part, if it can take the reel; a NotMoved if not."""
     if there := card_of(new, its.called):
@@ -219,6 +237,7 @@ def main(words: list[str] | None = None) -> int:
             clock = f"clock-{catalogue.spelled(now)[:-4]}Z"
             said(old, stored.line(clock, "clock", now, "ClockSet", {}))
             move = at_rest(old, asked, now)
+            want_free(old, move.card, asked.old)
             want_new(new, move, asked.new)
             plant.write_out("".join(f"{line}\n" for line in move.arrives()))
             is_begun = True

@@ -1,5 +1,5 @@
 """Keeps the attributes of reels that a desk doesn't have: date code, supplier, maker's part number,
-order.
+order. Those of its receipt are in the line's book, and count where nobody gave them here.
 
 usage: tracedesk-reels add FILE --by NAME [--line LINE]
        tracedesk-reels list [ATTRIBUTE=VALUE].. [--line LINE]

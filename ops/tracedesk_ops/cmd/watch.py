@@ -142,6 +142,7 @@ class Watch:
         yield "drained", int(self.asked.drained.exists()), {}
         for name, source in (
             ("reports", self.reports),
+            ("book", self.book),
             ("service", self.service),
             ("file", self.file),
             ("backup", self.backup),
@@ -186,6 +187,18 @@ class Watch:
             yield "least_floor_life_seconds", 60 * min(lives), {"machine": machine}
         if pieces:
             yield "least_slot_pieces", min(pieces.values()), {"machine": machine}
+
+    def book(self) -> metrics.Samples:
+        """How many entries the line's book has; nothing of a desk that has none."""
+        if not self.is_up:
+            raise plant.Fault("the desk is not asked for it: it is down")
+        status, body, _ = self.desk.until(
+            lambda: (self.desk.once("GET", "/line/counts", None, {}), "", 0.0)
+        )
+        if status != http.client.NOT_FOUND:
+            told = json.loads(body)
+            for name in ("Entries", "Open", "Undecided"):
+                yield f"book_{name.lower()}", int(told[name]), {}
 
     # --- What no route tells
 
