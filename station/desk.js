@@ -8,7 +8,6 @@ const POST_SECONDS = 30; // then the same bytes are sent again: a message acts o
 const ANEW = 300; // milliseconds until an answer of before is asked for again
 const ANEW_TIMES = 8; // and how often that is done while the desk makes a new one
 const CACHE = 3_000; // milliseconds after which the proxy asks the desk anew: two whole seconds
-const MOST_FILES = 50; // of senders: so many are read
 const DECIDED = {
   200: ["Accepted"],
   202: ["Ignored"],
@@ -121,6 +120,18 @@ export async function rows(path, query) {
   return { ...told, rows: rowsOf(told.text) };
 }
 
+/** What an asking finds, or null where it isn't had. */
+export async function had(asking) {
+  try {
+    return await asking;
+  } catch (fault) {
+    if (!(fault instanceof NotHad)) {
+      throw fault;
+    }
+    return null;
+  }
+}
+
 /** A file of the station itself as JSON, or null; `since` is when it was last changed. */
 export async function file(name) {
   const { status, text, headers } = await asked(`/station/${name}`, {}, GET_SECONDS);
@@ -153,29 +164,15 @@ export async function putRecord({ id, text, isDecision = false }, authorization 
 }
 
 /**
- * A file of the line's status: {name, told, changed}; what is told is null where it is no JSON.
+ * Decides about an entry of the line's book: "had", or "forbidden", or "none" where the line gave
+ * no answer.
  */
-async function lineFile(name) {
-  const target = `/line/status/${encodeURIComponent(name)}`;
-  const { status, text, headers } = await asked(target, {}, GET_SECONDS);
-  const changed = Date.parse(headers.get("Last-Modified") ?? "");
-  try {
-    return { name, told: status === 200 ? JSON.parse(text) : undefined, changed };
-  } catch {
-    return { name, told: null, changed };
-  }
-}
-
-/** What senders and the collector say of themselves, a file each; null where it isn't had. */
-export async function lineStatus() {
-  const { told: list } = await lineFile("");
-  if (!Array.isArray(list)) {
-    return null;
-  }
-  const isStatus = (it) => it?.type === "file" && String(it.name).endsWith(".json");
-  const files =
-    await Promise.all(list.filter(isStatus).slice(0, MOST_FILES).map(({ name }) => lineFile(name)));
-  return files.filter(({ told }) => told !== undefined);
+export async function decide(told) {
+  const headers = { "Content-Type": "application/json" };
+  const how = { method: "POST", body: JSON.stringify(told), headers };
+  const { status } = await asked("/line/decisions", how, POST_SECONDS);
+  heardAnswer();
+  return status === 200 ? "had" : session.isLoggedOut(status) ? "forbidden" : "none";
 }
 
 /**

@@ -10,8 +10,8 @@ import { isFresh } from "./machines.js";
 import { said } from "./say.js";
 import { TEXTS } from "./words.js";
 
-const URGENT = ["STOPS", "EXPIRED", "EMPTY", "LOW", "EXPIRES"]; // a person has to come
-const COUNTED = [...URGENT, "OTHER", "OFF", "NOSHEET"];
+const URGENT = ["EXPIRED", "EMPTY", "LOW", "EXPIRES"]; // a person has to come
+const COUNTED = ["STOPS", ...URGENT, "OTHER", "OFF", "NOSHEET"];
 const MOST_TILES = 10;
 const MOST_ABOVE = 4; // of what needs a person: above the slots, and above the overview, which
                         // names the worst slot of each machine
@@ -27,25 +27,46 @@ const SORTS = {
   life: (a, b) => (a.life ?? -1) - (b.life ?? -1),
 };
 const isNarrow = (place) => place.scrollWidth <= place.clientWidth;
-const rank = (row) => URGENT.findIndex((it) => row.states.includes(it));
+const isWithin = (place) => place.scrollHeight <= place.clientHeight && isNarrow(place);
+const BRIEF = "data-brief"; // of the screen whose empty and expired slots name no scan
+const isStop = (row) => row.states.includes("STOPS");
+
+/** How urgent a slot is: one that stops its machine without being of these states is it first. */
+function rank(row) {
+  const at = URGENT.findIndex((it) => row.states.includes(it));
+  return at < 0 && !isStop(row) ? null : at;
+}
 
 /**
- * The slots that need a person, the most urgent first: expired, empty, then the next to run out,
- * then the next to expire.
+ * The slots that need a person, the most urgent first: those that stop their machine, and of each
+ * expired, empty, then the next to run out, then the next to expire.
  */
 export function urgentOf(lines) {
   const rows = lines.flatMap(
     ({ line, rows: all }) =>
-      all.filter((it) => rank(it) >= 0).map((row) => ({ ...row, machine: line.machine })),
+      all.filter((it) => rank(it) !== null).map((row) => ({ ...row, machine: line.machine })),
   );
   const runsOut = (a, b) =>
     (a.minutes ?? Infinity) - (b.minutes ?? Infinity) || a.boards - b.boards;
   return rows.sort(
-    (a, b) => rank(a) - rank(b) ||
+    (a, b) => isStop(b) - isStop(a) || rank(a) - rank(b) ||
       (rank(a) === 2 ? runsOut(a, b)
          : rank(a) === 3 ? a.life - b.life
                          : 0),
   );
+}
+
+/**
+ * What a slot says: the scan that lets its machine go on, and what else is wrong. Of one that is
+ * empty or expired the style may leave the scan out.
+ */
+function withStops({ stops, states }, words) {
+  const text = words.join(" · ");
+  if (!stops || !text) {
+    return [stops || text];
+  }
+  const isRed = states.includes("EMPTY") || states.includes("EXPIRED");
+  return [el("i", { class: isRed ? "stops" : "" }, `${stops} · `), text];
 }
 
 export class LineScreen {
@@ -101,58 +122,51 @@ export class LineScreen {
     this.fit();
   }
 
-  /** A machine's rows; that of the slot that stops it has the scan that lets it go on. */
+  /** A machine's rows; those of slots that stop it have the scan that lets it go on. */
   rows(line) {
     const { model } = this.station;
-    const it = model.machines.states.get(line.machine);
-    const isStopped = it?.state === "stop" && isFresh(it, clock.now());
-    const stops = (row) =>
-      isStopped && row.slot === it.slot
-        ? { ...row, stops: closingText(it, model.loadFor(it)), states: ["STOPS", ...row.states] }
-        : row;
+    const { machine } = line;
+    const it = model.machines.get(machine);
+    const causes = it && isFresh(it, clock.now()) ? it.causes : [];
+    const stops = (row) => {
+      const cause = causes.find(({ slot }) => slot === row.slot);
+      const text = cause && closingText(cause, model.loadFor({ machine, ...cause }));
+      return cause ? { ...row, stops: text, states: ["STOPS", ...row.states] } : row;
+    };
     return model.rows(line).map(stops);
   }
 
   /**
-   * What goes before all else: work that was refused or that a machine contradicts and that
-   * nobody has decided about, and loads without an answer.
+   * What goes before all else: work that was refused and that nobody has decided about, and loads
+   * without an answer.
    */
   firstTiles() {
     const { model, waiting } = this.station;
     const texts = TEXTS.line;
-    const of = ([what, todo]) =>
-      el("li", { class: "EMPTY" }, el("b", null, what), el("span", null, todo));
-    const open = model.machines.open.map((it) => this.openTexts(it));
-    const unread =
-      model.machines.unread.map((name) => [said(texts.unread, { name }), texts.unreadDo]);
+    const of = ([what, todo, ...more]) =>
+      el("li", { class: "EMPTY" }, el("b", null, what), el("span", null, todo), ...more);
+    const open = model.entries.map((it) => this.openTexts(it));
     const unverified = waiting.filter(isLoad).map(({ body }) => {
       const values = { machine: body.Machine, slot: body.Slot, reel: body.Reel };
       return [said(texts.unverified, values), texts.unverifiedDo];
     });
-    return [...open, ...unverified, ...unread].map(of);
+    return [...open, ...unverified].map(of);
   }
 
-  /** What is said of work that nobody has decided about, and what to do. */
-  openTexts(it) {
+  /** What is said of an entry that nobody has decided about, what to do, and a way to do it. */
+  openTexts({ n, machine, slot, board, word, told }) {
     const texts = TEXTS.line;
-    const { machine, kind, at } = it;
-    const place = this.station.model.place(it.place ?? it.desk);
-    const slot = it.slot ?? (place?.machine === machine ? place.slot : null);
-    const where = slot === null ? machine : said(texts.urgent.where, { machine, slot });
-    const values = { where, board: it.board ?? "", time: at === null ? "" : dayAnd(at) };
-    if (kind === "differs") {
-      const what = {
-        desk: it.desk ?? "?",
-        took: it.took ?? "?",
-        designators: it.designators.join(" "),
-      };
-      const known = it.isKnown ? "" : ` ${texts.differsUnknown}`;
-      return [`${said(texts.witnesses, { ...values, ...what })}${known}`, texts.witnessesDo];
-    }
-    const [title] = TEXTS.refusals[it.refusal] ?? [`${it.refusal ?? ""} {at}`];
-    const message = it.message?.replace("TraceDesk.", "") ?? "";
-    const refusal = said(title, { at: it.place ?? "" });
-    return [said(texts.untraced, { ...values, message, refusal }), texts.untracedDo];
+    const where = slot === "" ? machine : said(texts.urgent.where, { machine, slot });
+    const [title] = TEXTS.refusals[word] ?? [`${word} {at}`];
+    const message = /"TraceDesk\.(\w+)"/.exec(told)?.[1] ?? "";
+    const time = Date.parse(/"TimeStamp":\s*"([^"]*)"/.exec(told)?.[1] ?? "");
+    const values = { where, board, message, refusal: said(title, { at: slot || board }) };
+    const acknowledge = () => this.station.decide(Number(n), "looked at");
+    return [
+      said(texts.untraced, { ...values, time: Number.isNaN(time) ? "?" : dayAnd(time) }),
+      texts.untracedDo,
+      button(texts.acknowledge, acknowledge),
+    ];
   }
 
   /** How many slots are in each state that needs somebody, as marks. */
@@ -238,17 +252,16 @@ export class LineScreen {
     const isFront = worst === front || worst?.reel === front?.reel;
     const values = { boards, life: worst ? lifeText(worst.minutes_left) : "" };
     const textOf = (it) =>
-      it === "STOPS"
-        ? stops
-        : texts[it === "EXPIRED" && !isFront ? "BEHIND" : it] ?? TEXTS.line.states[it];
-    const words = states.filter((it) => it !== "OTHER").map((it) => said(textOf(it), values));
+      texts[it === "EXPIRED" && !isFront ? "BEHIND" : it] ?? TEXTS.line.states[it];
+    const isShown = (it) => it !== "OTHER" && it !== "STOPS";
+    const words = states.filter(isShown).map((it) => said(textOf(it), values));
     const soon =
       minutes !== null && states.includes("LOW") ? [said(texts.soon, { minutes })] : [];
     const isOld = states.includes("EXPIRED") || states.includes("EXPIRES");
     const reel = isOld ? worst.reel : front?.reel ?? part;
     return [
       el("b", null, where),
-      el("b", null, [...words, ...soon].join(" · ")),
+      el("b", null, withStops({ stops, states }, [...words, ...soon])),
       el("span", null, reel),
     ];
   }
@@ -259,7 +272,7 @@ export class LineScreen {
    */
   machineTile({ line, rows, head, notes }) {
     const [worst] = urgentOf([{ line, rows }]);
-    const known = this.station.model.machines.states.get(line.machine);
+    const known = this.station.model.machines.get(line.machine);
     const board = known && isFresh(known, clock.now()) ? known.board : null;
     const texts = TEXTS.line;
     const marks = this.marks([{ rows }]);
@@ -346,8 +359,7 @@ export class LineScreen {
                       (it) => said(texts.behind, { reel: it.reel, left: Number(it.remaining) }),
                     )
                     .join(", ");
-    const words =
-      states.length ? states.map((it) => texts.states[it] ?? stops).join(" · ") : texts.states.OK;
+    const wrong = states.filter((it) => it !== "STOPS").map((it) => texts.states[it]);
     const life = front ? lifeText(worst.minutes_left) : "";
     return [
       [slot, "slot"],
@@ -358,7 +370,7 @@ export class LineScreen {
       boards === null ? "" : piecesText(boards),
       [waits, "name"],
       worst && worst !== front ? said(texts.lifeOf, { life, reel: worst.reel }) : life,
-      [words, "state"],
+      [states.length ? withStops({ stops, states }, wrong) : texts.states.OK, "state"],
     ];
   }
 
@@ -376,6 +388,7 @@ export class LineScreen {
       machines.querySelectorAll("tr").length,
       this.urgent.childElementCount,
       this.first.childElementCount,
+      ...[...main.querySelectorAll(".stops")].map((it) => it.textContent),
     ].join();
     const isHigh = main.scrollHeight > main.clientHeight;
     if (!machines.hasChildNodes() || (!isResized && fitted === this.fitted && !isHigh)) {
@@ -385,6 +398,7 @@ export class LineScreen {
     const { scrollTop } = main;
     const areAllThere = withoutScrollbars(main, () => this.fitAll(main));
     if (!areAllThere) {
+      main.toggleAttribute(BRIEF, false);
       SIZES.filter((it) => it <= SCROLLED).find((it) => this.set(it) ?? isNarrow(main));
     }
     main.scrollTop = scrollTop; // smaller letters were tried
@@ -395,26 +409,36 @@ export class LineScreen {
   }
 
   /**
-   * Sets the largest letters in which all slots are on the screen; where even the smallest are too
-   * large, fewer of those that need a person stand above them. False where nothing helps.
+   * Sets the largest letters in which all slots are on the screen. Where even the smallest are too
+   * large, empty and expired slots leave out the scan that lets their machine go on; and if that is
+   * not enough, fewer of those that need a person stand above them. False where nothing helps.
    */
   fitAll(main) {
-    const fits = (size) => {
-      this.set(size);
-      return main.scrollHeight <= main.clientHeight && isNarrow(main);
-    };
+    const isWide = main.clientWidth >= WIDE;
+    for (const isBrief of isWide ? [false, true] : [false]) {
+      main.toggleAttribute(BRIEF, isBrief);
+      if (this.fitLetters(main)) {
+        return true;
+      }
+    }
+    while (isWide && this.most > LEAST_TILES && !isWithin(main)) {
+      this.tiles(this.most - 1); // all slots are below them
+    }
+    return isWithin(main);
+  }
+
+  /** Sets the largest letters in which all is on the screen, or the smallest; whether it is. */
+  fitLetters(main) {
     this.measure();
     let least = 0;
     let most = SIZES.length - 1;
     while (least < most) { // to the first that fits
       const middle = (least + most) >> 1;
-      [least, most] = fits(SIZES[middle]) ? [least, middle] : [middle + 1, most];
+      this.set(SIZES[middle]);
+      [least, most] = isWithin(main) ? [least, middle] : [middle + 1, most];
     }
-    const isWide = main.clientWidth >= WIDE;
-    while (isWide && this.most > LEAST_TILES && !fits(SIZES[least])) {
-      this.tiles(this.most - 1); // all slots are below them
-    }
-    return fits(SIZES[least]);
+    this.set(SIZES[least]);
+    return isWithin(main);
   }
 
   /** Tells the style how wide a column of slots is, in its letters. */

@@ -7,8 +7,6 @@ import { isFresh } from "./machines.js";
 import { said } from "./say.js";
 import { TEXTS } from "./words.js";
 
-const CALM = ["idle", "waiting"]; // a machine stands so between two boards
-const OF_A_SLOT = ["empty", "expired", "unbaked", "slot"];
 const LARGEST = 0.052; // of the screen's height: the letters of a machine that is stopped
 const WIDEST = 0.06; // of its width
 const CALMER = 0.6; // of these letters, where none is
@@ -37,48 +35,41 @@ export function closingText({ cause }, load) {
   return said(text, { load: loadText(load) });
 }
 
-/** Why a machine is stopped. */
+/** A cause in words. */
 function whyText(it, load) {
-  const { cause, slot, reel, board, reason } = it;
+  const { cause, slot, reel } = it;
   const name = cause === "slot" && load.isSplice ? "slotSplice" : cause;
-  const text = TEXTS.machine.causes[name];
-  const isWhole = text && (!OF_A_SLOT.includes(cause) || slot) && (cause !== "expired" || reel);
-  if (!isWhole) {
-    return reason ?? "";
-  }
-  const values = { slot, reel: reel ?? "?", board: board ?? "", reason: reason ?? "" };
-  const where = slot && !OF_A_SLOT.includes(cause) ? said(TEXTS.machine.atSlot, { slot }) : "";
-  const why = said(text, { ...values, load: loadText(load), refusal: refusalText(it) });
-  return [where, why].filter(Boolean).join(" ").replace(/^[\s:]+|[\s:]+$/g, "");
+  const text = TEXTS.machine.causes[name] ?? name;
+  const values = { slot: slot ?? "?", reel: reel ?? "?", load: loadText(load) };
+  return said(text, { ...values, refusal: refusalText(it) });
 }
 
-/** The line of a machine: {kind, text}; null where there is nothing to say. */
-export function lineOf(it, load, now) {
+/**
+ * The line of a machine: {kind, text}, by its first cause and how many more there are. `loadFor`
+ * has the reel to load for a cause.
+ */
+export function lineOf(it, loadFor, now) {
   const texts = TEXTS.machine;
-  const { machine, board } = it;
+  const { machine, board, causes: [first, ...more] } = it;
   if (!isFresh(it, now)) {
     const text = it.at === null ? texts.unknown : texts.unknownSince;
-    return {
-      kind: "unknown",
-      text: said(text, { machine, time: it.at === null ? "" : dayAnd(it.at) }),
-    };
-  }
-  if (it.state === "stop") {
-    const why = whyText(it, load);
-    const text = said(why ? texts.stopped : texts.stoppedOnly, { machine, why });
-    return { kind: CALM.includes(it.cause) ? "calm" : "stop", text };
+    const time = it.at === null ? "" : dayAnd(it.at);
+    return { kind: "unknown", text: said(text, { machine, time }) };
   }
   if (it.state === "go") {
-    return { kind: "go", text: said(board ? texts.runs : texts.runsNone, { machine, board }) };
+    return { kind: "go", text: said(texts.runs, { machine, board }) };
   }
-  return board ? { kind: "go", text: said(texts.inWork, { machine, board }) } : null;
+  const count = more.filter(({ cause }) => cause !== "idle").length;
+  const why = whyText(first, loadFor({ machine, ...first })) + (count ? ` (+${count})` : "");
+  const kind = first.cause === "idle" ? "calm" : "stop";
+  return { kind, text: said(texts.stopped, { machine, why }) };
 }
 
 /** The lines of all machines of the tablet, those that are stopped first. */
 export function linesOf(model, now) {
   const order = ["stop", "unknown", "calm", "go"];
-  const known = model.lines.map(({ machine }) => model.known.get(machine)).filter(Boolean);
-  const lines = known.map((it) => lineOf(it, model.loadFor(it), now)).filter(Boolean);
+  const known = model.lines.map(({ machine }) => model.machines.get(machine)).filter(Boolean);
+  const lines = known.map((it) => lineOf(it, (cause) => model.loadFor(cause), now));
   return lines.sort((a, b) => order.indexOf(a.kind) - order.indexOf(b.kind));
 }
 

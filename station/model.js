@@ -6,14 +6,14 @@ import { rowsOf } from "./csv.js";
 import * as desk from "./desk.js";
 import { lifeOrder } from "./life.js";
 import { MOST_BOARDS } from "./limits.js";
-import { readMachines } from "./machines.js";
+import { stateOf } from "./machines.js";
 import { sheetOf, shownRows } from "./reckon.js";
 import * as store from "./store.js";
 
 const LEAST_PERIOD = 3; // seconds
 const KIT_PERIOD = 300; // of sheets, free reels and the overdue list, which seldom change
 const PACE_WINDOW = 20 * 60_000; // milliseconds over which a machine's pace is reckoned
-const STATUS_PERIOD = 3_000; // milliseconds: of what senders say of their machines
+const STATUS_PERIOD = 3_000; // milliseconds: of how the machines are
 const ENOUGH = 6; // free reels to choose from
 const CARDS = 24; // that are asked for at most to find more
 
@@ -64,8 +64,8 @@ export class Model {
     this.unfit = new Set(); // own parts of reels that were refused for a slot's part
     this.selected = {}; // of each machine: what this station's accepted selection said
     this.state = { had: null, age: null, at: 0, old: false, ok: false, status: 0 };
-    this.machines = readMachines([], null); // as their senders say it
-    this.known = new Map(); // of each machine: what a sender said of it last
+    this.machines = new Map(); // how each machine is, as the line said it last
+    this.entries = []; // of the line's book, that wait for a decision
     this.loads = new Map(); // of slots that stop a machine: the free reel to load, or null
     this.kitTurn = null; // which of the server's periods the kits are of
   }
@@ -84,7 +84,7 @@ export class Model {
     }
   }
 
-  /** Reads how the machines are, for good: the proxy has that, and the desk isn't asked. */
+  /** Reads how the machines are, for good. */
   async watch() {
     for (;;) {
       if (!document.hidden) {
@@ -135,24 +135,31 @@ export class Model {
     }
   }
 
-  /**
-   * Reads what the senders and the collector say, and which reel to load where a slot stops one.
-   */
+  /** Reads how each machine is and what waits for a decision, and which reel to load. */
   async lookAtMachines() {
-    const files = await desk.lineStatus();
-    if (files === null) {
-      return;
+    for (const { machine } of this.lines) {
+      const told = await desk.had(desk.report("line/state", { machine }));
+      if (told) {
+        this.machines.set(machine, stateOf(machine, JSON.parse(told.text), told.had));
+      }
     }
-    this.machines = readMachines(files, clock.now());
-    this.machines.states.forEach((it) => this.known.set(it.machine, it));
+    this.entries = (await desk.had(desk.rows("line/undecided", {})))?.rows ?? this.entries;
     this.changed();
     await this.findLoads();
   }
 
+  /** The number of the open entry about a scan that was refused; null if there is none. */
+  entryOf({ Machine, Slot, Reel }) {
+    const causes = this.machines.get(Machine)?.causes ?? [];
+    const isIt = ({ cause, slot, reel }) => cause === "slot" && slot === Slot && reel === Reel;
+    return causes.find(isIt)?.entry ?? null;
+  }
+
   /** Asks once for a free reel for each slot that stops a machine. */
   async findLoads() {
-    const stops = [...this.machines.states.values()].filter(
-      (it) => it.slot !== null && this.line(it.machine),
+    const stops = [...this.machines.values()].flatMap(
+      ({ machine, causes }) =>
+        causes.filter((it) => it.slot !== null).map((it) => ({ machine, ...it })),
     );
     const keys = stops.map((it) => JSON.stringify([it.machine, it.slot, it.cause, it.reel]));
     [...this.loads.keys()]

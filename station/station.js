@@ -73,9 +73,7 @@ export class Station {
     this.model = new Model(read, () => this.changed());
     this.outbox = new Outbox((told) => this.told(told));
     this.takenOff = new TakenOff({
-      made: (scan) => this.decision(scan),
-      put: desk.putRecord,
-      keep: (held) => store.setNote("takenOff", held).catch(() => {}),
+      say: (scan, authorization) => this.sayTakenOff(scan, authorization),
       changed: () => this.verdict.redrawOff(),
     });
     this.verdict = new Verdict(this.model, at("verdict"), {
@@ -92,9 +90,7 @@ export class Station {
   }
 
   async begin() {
-    const [badge, ahead, held] =
-      await Promise.all(["badge", "ahead", "takenOff"].map(store.note));
-    this.takenOff.begin(held);
+    const [badge, ahead] = await Promise.all(["badge", "ahead"].map(store.note));
     this.badge = badge?.name ? badge : this.badge;
     this.ahead = ahead ?? 0;
     await this.askMaySend(SOON);
@@ -167,7 +163,6 @@ export class Station {
       this.askMaySend();
     }
     this.wasOut = isOut;
-    this.takenOff.tick();
     this.machines.update();
     this.head.update();
   }
@@ -298,12 +293,36 @@ export class Station {
       .trim();
   }
 
-  /** The record of a decision that a refused reel was taken off; null without a badge. */
-  async decision(scan) {
+  /**
+   * Somebody with a badge decides about an entry of the line's book: its machine may go on. Returns
+   * what came of it, as `desk.decide` does, or "badge".
+   */
+  async decide(entry, became) {
     if (this.badgeName === null) {
-      return null;
+      this.fault(TEXTS.fault.badge);
+      return "badge";
     }
-    return takenOff(scan.recordId, this.source(), clock.stamp(clock.now() ?? Date.now()));
+    const told = { Of: entry, Became: became, By: this.source(), Reason: "said at the station" };
+    const found = await desk.decide(told);
+    await this.model.lookAtMachines();
+    return found;
+  }
+
+  /**
+   * Decides that a refused reel was taken off. Its entry is closed, and the record in the line's
+   * inbox is for recalls.
+   */
+  async sayTakenOff(scan, authorization) {
+    if (this.badgeName === null) {
+      return "badge";
+    }
+    await this.model.lookAtMachines();
+    const entry = this.model.entryOf(scan.body);
+    const found = entry === null ? "had" : await this.decide(entry, "taken off");
+    const at = clock.stamp(clock.now() ?? Date.now());
+    return found === "had"
+      ? desk.putRecord(await takenOff(scan.recordId, this.source(), at), authorization)
+      : found;
   }
 
   /** An action, with its values. */

@@ -1,30 +1,22 @@
 // TAKEN OFF: somebody says that a refused reel was taken off its slot, and that nothing was
-// placed from it. Then no recall doubts pieces because of it. So it is asked once more, and is
-// handed on only after a minute in which it can be undone. Until then the tablet keeps it.
+// placed from it. Then its machine may go on, and no recall doubts pieces because of it. So it is
+// asked once more.
 import { isLoad, whereOf } from "./answers.js";
 import { button, el } from "./dom.js";
 import { said } from "./say.js";
 import { authorizationOf } from "./session.js";
 import { TEXTS } from "./words.js";
 
-const HELD = 60_000; // milliseconds in which it can be undone
+const STATES = { had: "noted", badge: "badge", forbidden: "forbidden", none: "failed" };
 
 export class TakenOff {
   /**
-   * `made` makes the record of a decision, or says by null that a badge is wanted; `put` hands it
-   * on; `keep` keeps what is held over a reload; `changed` is called when it looks another way.
+   * `say` says so of a scan, by another log-in than the page's if one is given, and returns what
+   * came of it; `changed` is called when it looks another way.
    */
-  constructor({ made, put, keep, changed }) {
-    Object.assign(this, { made, put, keep, changed });
-    this.held = []; // {uid, record, due}
+  constructor({ say, changed }) {
+    Object.assign(this, { say, changed });
     this.states = new Map(); // of scans, by their UniqueID: "asked", "badge", "noted", ..
-    this.isBusy = false;
-  }
-
-  /** Takes up what was held when the page was loaded. */
-  begin(held) {
-    this.held = Array.isArray(held) ? held : [];
-    this.held.forEach(({ uid }) => this.states.set(uid, "held"));
   }
 
   set(uid, state) {
@@ -32,51 +24,8 @@ export class TakenOff {
     this.changed();
   }
 
-  hold(held) {
-    this.held = held;
-    this.keep(held);
-  }
-
-  /** Holds the decision about a scan for a minute. */
-  async decide(scan) {
-    const record = await this.made(scan);
-    if (record !== null) {
-      this.hold([...this.held, { uid: scan.uid, record, due: Date.now() + HELD }]);
-    }
-    this.set(scan.uid, record === null ? "badge" : "held");
-  }
-
-  undo({ uid }) {
-    this.hold(this.held.filter((it) => it.uid !== uid));
-    this.set(uid, "undone");
-  }
-
-  /** Hands on what was held for a minute; what the line's inbox has not taken is tried again. */
-  async tick() {
-    const due = this.held.filter((it) => it.due <= Date.now() || it.due > Date.now() + HELD);
-    if (this.held.length) {
-      this.changed();
-    }
-    if (!this.isBusy && due.length) {
-      this.isBusy = true;
-      for (const it of due) {
-        await this.handOn(it);
-      }
-      this.isBusy = false;
-    }
-  }
-
-  async handOn(it, authorization = null) {
-    const told = await this.put(it.record, authorization);
-    if (told === "had") {
-      this.hold(this.held.filter(({ uid }) => uid !== it.uid));
-    }
-    this.set(it.uid, { had: "noted", forbidden: "forbidden", none: "failed" }[told]);
-  }
-
-  secondsLeft(uid) {
-    const due = this.held.find((it) => it.uid === uid)?.due ?? 0;
-    return Math.max(0, Math.ceil((due - Date.now()) / 1000));
+  async decide(scan, authorization = null) {
+    this.set(scan.uid, STATES[await this.say(scan, authorization)]);
   }
 
   /** What a refusal offers, or nothing where it is of no reel on a slot. */
@@ -96,21 +45,16 @@ export class TakenOff {
          button(texts.yes, () => this.decide(scan)),
          button(texts.no, () => this.set(uid, "open")),
     ],
-      held: () =>
-        [line(said(texts.held, { seconds: this.secondsLeft(uid) })),
-         button(texts.undo, () => this.undo(scan)),
-    ],
-      undone: () => [line(texts.undone), ask],
       badge: () => [line(texts.badge), ask],
       noted: () => [line(texts.noted)],
-      failed: () => [line(texts.failed), button(texts.undo, () => this.undo(scan))],
-      forbidden: () => [line(texts.forbidden), this.form(uid)],
+      failed: () => [line(texts.failed), ask],
+      forbidden: () => [line(texts.forbidden), this.form(scan)],
     }[state]();
     return el("div", { class: `answers off ${state}` }, parts);
   }
 
   /** A log-in of somebody who may decide, for this decision alone. */
-  form(uid) {
+  form(scan) {
     const texts = TEXTS.logIn;
     const user = el("input", { "aria-label": texts.user, placeholder: texts.user });
     const password = el(
@@ -119,8 +63,7 @@ export class TakenOff {
     );
     const send = (event) => {
       event.preventDefault();
-      const held = this.held.find((it) => it.uid === uid);
-      this.handOn(held, authorizationOf(user.value, password.value));
+      this.decide(scan, authorizationOf(user.value, password.value));
     };
     return el(
       "form",

@@ -75,20 +75,17 @@ export const TEXTS = {
   },
   machine: {
     runs: "{machine} fertigt {board}",
-    runsNone: "{machine} läuft",
-    inWork: "{machine}: Baugruppe {board} in Arbeit",
     stopped: "{machine} STEHT: {why}",
-    stoppedOnly: "{machine} STEHT",
     unknownSince: "{machine} unbekannt seit {time}",
     unknown: "{machine} unbekannt",
-    atSlot: "Platz {slot}:",
     another: "eine andere Rolle",
     anotherOf: "eine Rolle {part}",
     aScan: "ein Scan wurde abgelehnt",
     causes: {
       idle: "keine Baugruppe gestartet",
-      waiting: "wartet auf die Antwort des Desks",
-      refused: "{board} abgelehnt: {refusal}. Beheben, dann eine Baugruppe neu starten",
+      refused:
+        "eine Arbeitsmeldung wurde abgelehnt: {refusal}. Eine Baugruppe starten, oder auf " +
+        "Linie QUITTIEREN",
       slot: "Platz {slot}: {refusal}. {reel} abnehmen, {load} rüsten",
       slotSplice:
         "Platz {slot}: {refusal}. {reel} abnehmen. {load} SPLEISSEN, oder ABRÜSTEN und die " +
@@ -96,13 +93,14 @@ export const TEXTS = {
       empty: "Platz {slot} ist leer: {load} rüsten",
       expired: "Platz {slot}, {reel} abgelaufen: abrüsten, {load} rüsten",
       unbaked: "Platz {slot}, {reel} nicht getrocknet: abrüsten, {load} rüsten",
+      wrong: "Platz {slot}: {reel} hat das falsche Teil: abrüsten, {load} rüsten",
+      held:
+        "Platz {slot}: {reel} ist gesperrt. Qualität gibt sie frei, oder abrüsten, {load} " +
+        "rüsten",
+      sheet: "kein Rüstblatt ist gewählt",
       differs:
-        "{board}: Die Maschine nahm {reel}, der Desk hat dort eine andere Rolle. Baugruppe " +
+        "Die Maschine nahm {reel}, der Desk hat dort eine andere Rolle. Baugruppe " +
         "beiseite legen, ABRÜSTEN, die Rolle darauf RÜSTEN",
-      "not-in-work": "{board} ist hier nicht in Arbeit. Neu starten",
-      silent: "Der Desk oder die Maschine ist nicht zu hören. {reason}",
-      fault: "Der Sender hat einen Fehler. {reason}",
-      ended: "Der Sender ist beendet. Linienführer rufen",
     },
   },
   strip: {
@@ -243,13 +241,9 @@ export const TEXTS = {
         "sich darauf.",
       yes: "JA, abgenommen",
       no: "NEIN",
-      held:
-        "In {seconds} s wird vermerkt, dass die Rolle ab ist und nichts von ihr bestückt wurde.",
-      undo: "RÜCKGÄNGIG",
-      undone: "Rückgängig gemacht: Nichts ist vermerkt.",
       noted: "Vermerkt: Die Rolle ist ab, und nichts wurde von ihr bestückt.",
       badge: "NICHT vermerkt: Ausweis scannen, dann noch einmal ABGENOMMEN tippen.",
-      failed: "Noch nicht vermerkt: Der Ordner der Linie antwortet nicht. Es wird wieder versucht.",
+      failed: "NICHT vermerkt: keine Antwort. Noch einmal ABGENOMMEN tippen.",
       forbidden: "NICHT vermerkt: Dazu gehört die Anmeldung von jemandem, der entscheiden darf.",
     },
   },
@@ -338,6 +332,7 @@ export const TEXTS = {
       state: "Zustand",
     },
     states: {
+      STOPS: "STOPPT",
       EMPTY: "LEER",
       LOW: "KNAPP",
       EXPIRES: "LÄUFT AB",
@@ -364,13 +359,7 @@ export const TEXTS = {
     },
     untraced: "{where}: {message} {board} ABGELEHNT um {time}: {refusal}",
     untracedDo: "Halt. Baugruppe beiseite legen und Qualität rufen, die darüber entscheidet",
-    witnesses:
-      "{where}: {board} {designators}: Der Desk hat Rolle {desk}, die Maschine nahm Rolle {took}",
-    differsUnknown: "(der Desk kennt diese Rolle nicht)",
-    witnessesDo:
-      "Halt. Die Rückverfolgung ist in Zweifel: Baugruppe beiseite legen und Qualität rufen",
-    unread: "{name} von /line/status ist nicht lesbar: Seine Maschinen sind unbekannt",
-    unreadDo: "Rufen, wer den Sender eingerichtet hat",
+    acknowledge: "QUITTIEREN",
     unverified: "{machine} {slot}: {reel} NICHT GEPRÜFT",
     unverifiedDo: "Diesen Platz nicht laufen lassen, bis der Desk geantwortet hat",
     more: "und {count} weitere",

@@ -72,20 +72,17 @@ export const TEXTS = {
   },
   machine: {
     runs: "{machine} fabrica {board}",
-    runsNone: "{machine} en marcha",
-    inWork: "{machine}: placa {board} en curso",
     stopped: "{machine} PARADA: {why}",
-    stoppedOnly: "{machine} PARADA",
     unknownSince: "{machine} sin datos desde {time}",
     unknown: "{machine} sin datos",
-    atSlot: "posición {slot}:",
     another: "otro rollo",
     anotherOf: "un rollo de {part}",
     aScan: "un escaneo fue rechazado",
     causes: {
       idle: "ninguna placa iniciada",
-      waiting: "espera la respuesta del desk",
-      refused: "{board} rechazada: {refusal}. Corríjalo e inicie una placa de nuevo",
+      refused:
+        "se rechazó un aviso de trabajo: {refusal}. Inicie una placa, o toque ENTERADO en " +
+        "Línea",
       slot: "posición {slot}: {refusal}. Quite {reel}, cargue {load}",
       slotSplice:
         "posición {slot}: {refusal}. Quite {reel}. EMPALME {load}, o DESCARGUE y CARGUE el " +
@@ -93,13 +90,14 @@ export const TEXTS = {
       empty: "posición {slot} vacía: cargue {load}",
       expired: "posición {slot}, {reel} caducado: descárguelo, cargue {load}",
       unbaked: "posición {slot}, {reel} sin hornear: descárguelo, cargue {load}",
+      wrong: "posición {slot}: {reel} es de otra pieza: descárguelo, cargue {load}",
+      held:
+        "posición {slot}: {reel} está retenido. Calidad lo libera, o descárguelo, cargue " +
+        "{load}",
+      sheet: "ninguna hoja elegida",
       differs:
-        "{board}: la máquina tomó {reel}, que el desk no tiene ahí. Aparte la placa, DESCARGUE, " +
+        "la máquina tomó {reel}, que el desk no tiene ahí. Aparte la placa, DESCARGUE, " +
         "CARGUE el carrete que está en ella",
-      "not-in-work": "{board} no está en curso aquí. Iníciela de nuevo",
-      silent: "no se oye al desk o a la máquina. {reason}",
-      fault: "el emisor tiene un fallo. {reason}",
-      ended: "el emisor terminó. Llame al jefe de línea",
     },
   },
   strip: {
@@ -236,12 +234,9 @@ export const TEXTS = {
         "{where}: ¿está quitado el rollo y no se colocó nada de él? Una retirada se fiará de esto.",
       yes: "SÍ, quitado",
       no: "NO",
-      held: "En {seconds} s se anotará que el rollo se quitó y que no se colocó nada de él.",
-      undo: "DESHACER",
-      undone: "Deshecho: no se anotó nada.",
       noted: "Anotado: el rollo se quitó y no se colocó nada de él.",
       badge: "NO anotado: escanee su credencial y toque QUITADO otra vez.",
-      failed: "Aún no anotado: la carpeta de la línea no responde. Se intenta de nuevo.",
+      failed: "NO anotado: sin respuesta. Toque QUITADO otra vez.",
       forbidden: "NO anotado: hace falta el usuario de alguien que pueda decidir.",
     },
   },
@@ -322,6 +317,7 @@ export const TEXTS = {
       state: "estado",
     },
     states: {
+      STOPS: "PARA",
       EMPTY: "VACÍA",
       LOW: "POCO",
       EXPIRES: "CADUCA",
@@ -348,13 +344,7 @@ export const TEXTS = {
     },
     untraced: "{where}: {message} {board} RECHAZADO a las {time}: {refusal}",
     untracedDo: "Pare. Aparte la placa y llame a Calidad, que decide",
-    witnesses:
-      "{where}: {board} {designators}: el desk tiene el rollo {desk}, la máquina tomó el rollo " +
-      "{took}",
-    differsUnknown: "(el desk no conoce este rollo)",
-    witnessesDo: "Pare. Su trazabilidad está en duda: aparte la placa y llame a Calidad",
-    unread: "No se puede leer {name} de /line/status: no hay datos de sus máquinas",
-    unreadDo: "Llame a quien instaló el emisor",
+    acknowledge: "ENTERADO",
     unverified: "{machine} {slot}: {reel} NO VERIFICADO",
     unverifiedDo: "No use esta posición hasta que el desk responda",
     more: "y {count} más",

@@ -74,33 +74,27 @@ export const TEXTS = {
   },
   machine: {
     runs: "{machine} runs {board}",
-    runsNone: "{machine} runs",
-    inWork: "{machine}: board {board} in work",
     stopped: "{machine} STOPPED: {why}",
-    stoppedOnly: "{machine} STOPPED",
     unknownSince: "{machine} not known since {time}",
     unknown: "{machine} not known",
-    atSlot: "slot {slot}:",
     another: "another reel",
     anotherOf: "a reel of {part}",
     aScan: "a scan was refused",
     causes: {
       idle: "no board is started",
-      waiting: "waits for the desk's answer",
-      refused: "{board} refused: {refusal}. Correct it, and start a board anew",
+      refused: "a report of work was refused: {refusal}. Start a board, or ACKNOWLEDGE it on Line",
       slot: "slot {slot}: {refusal}. Take {reel} off, load {load}",
       slotSplice:
         "slot {slot}: {refusal}. Take {reel} off. SPLICE {load}, or UNLOAD and LOAD what is on it",
       empty: "slot {slot} is empty: load {load}",
       expired: "slot {slot}, {reel} expired: unload it, load {load}",
       unbaked: "slot {slot}, {reel} is not baked: unload it, load {load}",
+      wrong: "slot {slot}: {reel} is of the wrong part: unload it, load {load}",
+      held: "slot {slot}: {reel} is held. Quality releases it, or unload it, load {load}",
+      sheet: "no sheet is selected",
       differs:
-        "{board}: the machine took {reel}, which the desk does not have there. Put the board " +
+        "the machine took {reel}, which the desk does not have there. Put the board " +
         "aside, UNLOAD, LOAD what is on it",
-      "not-in-work": "{board} is not in work here. Start it anew",
-      silent: "the desk or the machine is not heard. {reason}",
-      fault: "the sender has a fault. {reason}",
-      ended: "the sender has ended. Call the line leader",
     },
   },
   strip: {
@@ -226,14 +220,9 @@ export const TEXTS = {
       sure: "{where}: is the reel off, and was nothing placed from it? A recall will rely on this.",
       yes: "YES, taken off",
       no: "NO",
-      held:
-        "It will be noted in {seconds} s that the reel was taken off and nothing was placed " +
-        "from it.",
-      undo: "UNDO",
-      undone: "Undone: nothing is noted.",
       noted: "Noted: the reel was taken off, and nothing was placed from it.",
       badge: "NOT noted: scan your badge, then touch TAKEN OFF again.",
-      failed: "Not noted yet: the line's folder gives no answer. It is tried again.",
+      failed: "NOT noted: no answer. Touch TAKEN OFF again.",
       forbidden: "NOT noted: this needs the log-in of somebody who may decide.",
     },
   },
@@ -315,6 +304,7 @@ export const TEXTS = {
       state: "state",
     },
     states: {
+      STOPS: "STOPS",
       EMPTY: "EMPTY",
       LOW: "LOW",
       EXPIRES: "EXPIRES",
@@ -341,12 +331,7 @@ export const TEXTS = {
     },
     untraced: "{where}: {message} {board} REFUSED at {time}: {refusal}",
     untracedDo: "Stop. Put the board aside and call Quality, who decides about it",
-    witnesses:
-      "{where}: {board} {designators}: the desk has reel {desk}, the machine took reel {took}",
-    differsUnknown: "(the desk does not know this reel)",
-    witnessesDo: "Stop. Its trace is in doubt: put the board aside and call Quality",
-    unread: "{name} of /line/status can't be read: its machines are not known",
-    unreadDo: "Call whoever installed the sender",
+    acknowledge: "ACKNOWLEDGE",
     unverified: "{machine} {slot}: {reel} NOT VERIFIED",
     unverifiedDo: "Don't run this slot before the desk has answered",
     more: "and {count} more",

@@ -232,7 +232,7 @@ def test_untraced_work_is_put_once(site: Site) -> None:
     )
 
 
-def test_status_is_put_by_senders_and_read(site: Site) -> None:
+def test_status_is_put_by_senders(site: Site) -> None:
     worked = [
         ("PUT", STATUS, None, 403),
         ("PUT", STATUS, "office", 403),
@@ -241,7 +241,7 @@ def test_status_is_put_by_senders_and_read(site: Site) -> None:
         ("PUT", "/line/status/m1.txt", "op", 403),
         ("PUT", "/line/status/a/b.json", "op", 403),
         ("PUT", "/line/status/..%2funtraced%2fm1.json", "op", 404),
-        ("GET", STATUS, "office", 404),
+        ("GET", STATUS, "office", 403),
         ("GET", "/line/status/", None, 401),
     ]
     for method, path, user, status in worked:
@@ -252,24 +252,7 @@ def test_status_is_put_by_senders_and_read(site: Site) -> None:
         )
     for text, status in (('{"Waiting":0}', 201), ('{"Waiting":12}', 204)):
         agree("a status is put", status, site.asked("PUT", STATUS, "op", text)[0])
-        got, headers, body = site.asked("GET", STATUS, "office")
-        agree(
-            "and read",
-            (200, text, "application/json", "no-store"),
-            (got, body, headers["Content-Type"], headers["Cache-Control"]),
-        )
-    (site.room / "line/status/untraced.json").write_text("{}\n")
-    got, headers, body = site.asked("GET", "/line/status/", "office")
-    agree(
-        "the folder",
-        (200, "application/json", [("op.json", "file"), ("untraced.json", "file")]),
-        (got, headers["Content-Type"], [(it["name"], it["type"]) for it in json.loads(body)]),
-    )
-    agree(
-        "untraced.json is read",
-        (200, "{}\n"),
-        site.asked("GET", "/line/status/untraced.json", "office")[::2],
-    )
+        agree("and is there", text, (site.room / "line/status/op.json").read_text())
 
 
 def rules_of_the_firewall() -> str:

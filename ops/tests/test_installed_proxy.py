@@ -167,21 +167,14 @@ def test_a_busy_desk_is_waited_for(machine: Machine) -> None:
 
 
 def test_the_service_starts_again(machine: Machine) -> None:
-    """When its connections are used up, and when it is killed; what was answered is there."""
-    at, unit = "/run/systemd/system/tracedesk.service.d", "/lib/systemd/system/tracedesk.service"
-    machine.restart(
-        f"mkdir -p {at};"
-        f" (echo [Service]; echo ExecStart=; grep ^ExecStart= {unit}) > {at}/few.conf;"
-        f" sed -i 's/--connections .*/--connections 4/' {at}/few.conf;"
-        " systemctl daemon-reload; systemctl restart tracedesk"
-    )
+    """When it is killed; what was answered is there. It is tracedesk-line."""
     post = (
         f"curl -sS -f {JSON} --cacert /etc/tracedesk/server.crt {M1} --retry 600 --retry-delay 1"
         f" --retry-all-errors --data-binary '{{}}' {SEND} 2> /dev/null"
     )
     first = [machine.by_client(post.format(part(f"A{number}"))) for number in range(10)]
-    assert int(machine.shell("systemctl show -P NRestarts tracedesk")) >= 2
-    machine.restart(f"rm -r {at}; systemctl daemon-reload; systemctl restart tracedesk")
+    name = 'cat "/proc/$(systemctl show -P MainPID tracedesk)/comm"'
+    assert machine.shell(name).strip() == "tracedesk-line"
     machine.shell("systemctl kill --signal=KILL tracedesk")
     again = [machine.by_client(post.format(part(f"A{number}"))) for number in range(10)]
     assert again == first

@@ -4,6 +4,8 @@ size of a plant's.
 import csv
 import datetime
 import io
+import json
+import re
 from typing import Any
 
 from station_operator import Operator
@@ -49,7 +51,15 @@ class Slot:
     """A slot by the reports: `row` is its row of the screen, `states` what is wrong."""
 
     def __init__(
-        self, machine: str, slot: str, part: str, needed: int, reels: Any, boards: int, expires: int
+        self,
+        machine: str,
+        slot: str,
+        part: str,
+        needed: int,
+        reels: Any,
+        boards: int,
+        expires: int,
+        stops: bool,
     ) -> None:
         self.machine, self.slot, self.part, self.reels = machine, slot, part, reels
         pieces, ends = [int(it["remaining"]) for it in reels], [
@@ -71,6 +81,7 @@ class Slot:
             )
             if holds
         ]
+        self.stops = ["STOPS"] if stops else []
         said = (
             ""
             if not reels
@@ -86,7 +97,7 @@ class Slot:
             f"{self.boards:,}" if needed else "",
             ", ".join(f"{it['reel']} {int(it['remaining']):,}" for it in reels[1:]),
             said,
-            " · ".join(WORDS[it] for it in self.states) or "OK",
+            " · ".join([*self.stops, *(WORDS[it] for it in self.states)]) or "OK",
         ]
 
     def tile(self) -> Any:
@@ -94,7 +105,7 @@ class Slot:
         words.
         """
         rank = min((URGENT.index(it) for it in self.states if it in URGENT), default=None)
-        if rank is None:
+        if rank is None and not self.stops:
             return None
         behind = "" if not self.reels or self.worst is self.reels[0] else " BEHIND"
         words = [
@@ -113,9 +124,11 @@ class Slot:
             if self.reels
             else self.part
         )
-        return (rank, {2: self.boards, 3: self.life}.get(rank, 0)), [
+        at = -1 if rank is None else rank
+        within = {2: self.boards, 3: self.life}.get(at, 0)
+        return (not self.stops, at, within), [
             f"{self.machine} {self.slot}",
-            " · ".join(words),
+            " · ".join([*self.stops, *words]),
             reel,
         ]
 
@@ -125,6 +138,8 @@ def slots_of(site: Site, machine: str, product: str, boards: int, expires: int) 
     it.
     """
     mounted = report(site, f"/slots?machine={machine}")
+    told = json.loads(site.get(f"/line/state?machine={machine}"))
+    stopping = {it.get("Slot") for it in told["Causes"]}
     sheet = list(
         dict.fromkeys(
             (it["slot"], it["part"], int(it["needed"]))
@@ -144,14 +159,20 @@ def slots_of(site: Site, machine: str, product: str, boards: int, expires: int) 
             [it for it in mounted if it["slot"] == slot],
             boards,
             expires,
+            slot in stopping,
         )
         for slot, part, needed in sheet + off
     ]
 
 
+def without_scans(told: Any) -> Any:
+    """Texts of slots, without the scan that lets a machine go on: of that there is a test apart."""
+    return [[re.sub(r"STOPS: [^·]*[^ ·]", "STOPS", it) for it in texts] for texts in told]
+
+
 def shown_rows(operator: Operator, machine: str) -> Any:
     """The rows of a machine on the screen Line, over all its columns."""
-    return operator.script(
+    told = operator.script(
         (
             "return [...document.querySelectorAll('#main table')].filter((it) => it.dataset.machine"
             " === arguments[0]).flatMap((it) => [...it.tBodies[0].rows].map((row) =>"
@@ -159,13 +180,15 @@ def shown_rows(operator: Operator, machine: str) -> Any:
         ),
         machine,
     )
+    return without_scans(told)
 
 
 def shown_tiles(operator: Operator) -> Any:
-    return operator.script(
+    told = operator.script(
         "return [...document.querySelectorAll('.urgent li:not(.more)')].map((it) =>"
         " [...it.children].map((part) => part.textContent))"
     )
+    return without_scans(told)
 
 
 def line_is_as_reported(
@@ -195,8 +218,8 @@ def line_is_as_reported(
     settles(f"Line of {machine} and report differ", differs)
 
 
-def rank_of(found: Any) -> tuple[int, int]:
-    rank: tuple[int, int] = found[0]
+def rank_of(found: Any) -> tuple[bool, int, int]:
+    rank: tuple[bool, int, int] = found[0]
     return rank
 
 

@@ -4,18 +4,16 @@ package.
 import contextlib
 import pathlib
 import time
-from typing import Any
 
 from station_line import real_line, shown_tiles, view
 from station_looks import SCREEN, set_up
 from station_operator import Operator
-from station_plant import LABEL, SHEET, asks, machines_say, plant, type_label
+from station_plant import LABEL, SHEET, asks, plant, type_label
 from station_site import SETUP, Site, wait_for
 from tracedesk_dev.trial import Difference, in_memory
 
 SIZES = {"machines": (1280, 800), "tablet": (768, 1024), "phone": (360, 640)}
 LANGUAGES = ("de", "es", "zh")
-STOP = {"State": "stop", "Cause": "expired", "Slot": "3", "Reel": "R-OLD", "Board": "SN-2040"}
 ESCAPE = "\ue00c"
 MORE = (("K-11", "CAP", "3", 2500), ("K-12", "CAP", "5a", 1800), ("K-13", "RES", "1", 5000))
 PLACES = {"CAP": "A3-07", "RES": "A1-12", "LED": "B2-01"}
@@ -40,17 +38,20 @@ def more_reels(site: Site) -> None:
 
 
 def three_boards(site: Site) -> None:
+    """Three boards of M1, and one more that is in work."""
     names = [name for _, _, names in SHEET for name in names]
     for number in (1, 2, 3):
         at = {"Machine": "M1", "Board": f"SN-{number:04}"}
         site.say("WorkStarted", at)
         site.say("MaterialsInstalled", at | {"Designators": names})
         site.say("WorkCompleted", at)
+    site.say("WorkStarted", {"Machine": "M1", "Board": "SN-2041"})
 
 
 def screens(it: Operator, into: pathlib.Path) -> None:
     """Each screen, and both answers."""
     it.does("S/M2/1", "K-11")
+    wait_for("the line has it", lambda: "M2 STOPPED: slot 2" in it.text("machines"))
     taken(it, into, "accepted")
     it.does("S/M2/3", "K-13", kind="refused")
     wait_for("the free reels", lambda: "K-12" in it.text("verdict"))
@@ -105,7 +106,6 @@ def pictures(program: str, into: pathlib.Path) -> int:
             set_up(it)
             three_boards(site)
             screens(it, into)
-            machines_say(site, M1=STOP, M2={"State": "go", "Board": "SN-2041"})
             it.load("&lang=en")
             it.ready().seen()
             for name, size in SIZES.items():
@@ -117,13 +117,12 @@ def pictures(program: str, into: pathlib.Path) -> int:
     with Site(program, in_memory()) as site:
         told = real_line(site)
         site.say("MaterialsUnloaded", {"Machine": told.machines[0], "Slot": "3"})
-        first, second = told.machines[:2]
-        said: dict[str, Any] = {first: STOP, second: {"State": "go", "Board": "SN-2041"}}
-        machines_say(site, **said)
+        first = told.machines[0]
         with Operator(site) as it:
             view(it, *SCREEN)
             it.ready()
             wait_for("the Line", lambda: len(shown_tiles(it)) > 2)
+            wait_for("what to load", lambda: it.text("machines").count("load L1-") == 2)
             taken(it, into, "line")
             it.scan(f"S/{first}/3")
             wait_for("the slot is held", lambda: "is empty" in it.text("held"))

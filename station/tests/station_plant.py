@@ -331,12 +331,3 @@ def records(site: Site) -> list[dict[str, Any]]:
     """The records of untraced work that were handed on, and the decisions about them."""
     files = [*site.room.glob("line/untraced/*.json"), *site.room.glob("line/decided/*.json")]
     return [json.loads(file.read_bytes()) for file in files]
-
-
-def machines_say(site: Site, period: float = 3_600, ago: float = 0, **machines: Any) -> None:
-    """Writes what a sender says of its machines, as it did so many seconds ago."""
-    at = datetime.datetime.now(datetime.timezone.utc) - datetime.timedelta(seconds=ago)
-    told = {"At": at.strftime("%Y-%m-%dT%H:%M:%SZ"), "Period": period, "Machines": machines}
-    file = site.room / "line/status/m1.json"
-    file.with_suffix(".new").write_text(json.dumps({"Version": 1, "Sender": "m1", **told}))
-    file.with_suffix(".new").rename(file)

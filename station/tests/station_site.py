@@ -21,6 +21,7 @@ from typing import Any, Callable, Sequence
 
 from tracedesk_dev.ports import free_port
 from tracedesk_dev.trial import Difference, wanting
+from tracedesk_ops import plant as installed
 
 ROOT = pathlib.Path(__file__).resolve().parents[2]
 PEOPLE = {"op": "senders", "office": "readers", "qm": "deciders"}  # their passwords are their names
@@ -105,6 +106,7 @@ class Site:
 
     def __init__(self, program: str, folder: str | None = None) -> None:
         self.program = program
+        self.server = installed.next_to(program, "line") or program
         self.room = pathlib.Path(tempfile.mkdtemp(prefix="station-", dir=folder))
         self.port, self.desk_port, self.inner_port = (free_port() for _ in range(3))
         self.desk: Any = None
@@ -123,7 +125,6 @@ class Site:
             "line/untraced",
             "line/status",
             "line/decided",
-            "line/scans",
         ):
             (self.room / it).mkdir(parents=True)
         (self.room / "share/station").symlink_to(ROOT / "station")
@@ -262,7 +263,7 @@ class Site:
         with open(self.room / "served.txt", "ab") as served:
             self.desk = subprocess.Popen(
                 [
-                    self.program,
+                    self.server,
                     "serve",
                     "--db",
                     self.room / "desk",

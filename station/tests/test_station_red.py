@@ -33,32 +33,19 @@ def test_untraced_work_is_red(site: Site) -> None:
     """A refused report of work stands on Line until it is decided, and so does a load without an
     answer.
     """
-    refused = {
-        "Answer": {"Answer": "Refused", "Refusal": "Expired", "At": "K-1"},
-        "At": "2026-03-02T06:00:00Z",
-        "Id": "a" * 32,
-        "Message": {
-            "MessageName": "TraceDesk.WorkStarted",
-            "MessageBody": {"Machine": "M1", "Board": "SN-7"},
-        },
-    }
-    status = site.room / "line/status"
-    (status / "m1.json").write_text(
-        json.dumps({"Machines": {"M1": {"LastRefused": refused, "State": "stop"}}, "Version": 1})
-    )
+    site.say("WorkStarted", {"Machine": "M1", "Board": "SN-7"})
     first = "return document.querySelector('.first')?.innerText ?? ''"
+    words = ("M1 1", "WorkStarted", "SN-7", "has no reel", "Put the board aside", "ACKNOWLEDGE")
     with Operator(site) as it:
         it.ready()
-        wait_for(
-            "the refusal",
-            lambda: all(
-                word in it.script(first)
-                for word in ("M1", "WorkStarted", "SN-7", "EXPIRED", "Put the board aside")
-            ),
-        )
-        (status / "untraced.json").write_text(
-            json.dumps({"Decided": ["a" * 32], "Undecided": [], "Version": 1})
-        )
+        wait_for("the refusal", lambda: all(word in it.script(first) for word in words))
+        press = "document.querySelector('.first button')?.click()"
+        it.script(press)
+        wait_for("a badge is wanted", lambda: "Scan your badge" in it.text("verdict"))
+        it.seen()
+        it.scan("B/anna")
+        time.sleep(1)  # a second touch at once is none
+        it.script(press)
         wait_for("it is decided", lambda: "SN-7" not in it.script(first))
         it.does("S/M1/1", "K-2", kind="refused", holds=("TAKEN OFF",))
         it.seen()

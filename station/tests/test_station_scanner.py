@@ -1,5 +1,4 @@
 """What a scanner types leads to a scan, whatever has the focus."""
-import json
 import pathlib
 import time
 from typing import Any
@@ -162,16 +161,12 @@ def receipts(it: Operator, Keys: Any) -> None:
     ) != ["40", "120"]:
         raise Difference(f"digits of a reel of level 6: {got}")
     it.does("A/ENTER", holds=("RECEIVED", "R-6"))
-    has_attributes(it.site, {"R-1": {}, "R-6": {"DateCode": "2614", "Order": "PO-7"}})
+    has_attributes(it, {"R-1": {}, "R-6": {"DateCode": "2614", "Order": "PO-7"}})
 
 
-def has_attributes(site: Site, wanted: Any) -> None:
-    """Whether the proxy wrote of these reels what else their labels say."""
-    (file,) = (site.room / "line/scans").glob("receipts-*.jsonl")
-    bodies = [
-        json.loads(json.loads(line)["Message"])["MessageBody"]
-        for line in file.read_text().splitlines()
-    ]
+def has_attributes(it: Operator, wanted: Any) -> None:
+    """Whether the page sent of these reels what else their labels say."""
+    bodies = [scan["body"] for scan in it.scans() if scan["word"] == "ReelReceived"]
     found = {
         body["Reel"]: {name: body[name] for name in ("DateCode", "Order") if name in body}
         for body in bodies

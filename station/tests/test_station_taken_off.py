@@ -1,11 +1,13 @@
 """A refused load shows what was scanned and what is wanted; that its reel was taken off is asked
-twice and can be undone.
+twice, and lets the machine go on.
 """
+import json
 import time
+from typing import Any
 
 import pytest
 from station_operator import Operator
-from station_plant import CLOCKS, GUARD, opened, records
+from station_plant import GUARD, records
 from station_site import Site, wait_for
 from tracedesk_dev.trial import Difference
 from tracedesk_ops import doubts
@@ -66,11 +68,14 @@ def test_a_touch_too_soon_is_none(site: Site) -> None:
             raise Difference(it.script(OFF))
 
 
-def test_it_is_asked_twice_and_can_be_undone(site: Site) -> None:
-    """No sends nothing, an undo sends nothing, a minute later it is noted, and a reload in between
-    loses nothing.
-    """
-    with opened(site, CLOCKS) as it:
+def causes(site: Site) -> list[dict[str, Any]]:
+    told: dict[str, Any] = json.loads(site.asked("GET", "/line/state?machine=M1", "office")[2])
+    return [it for it in told["Causes"] if it["Cause"] == "Open"]
+
+
+def test_it_is_asked_twice_and_wants_a_badge(site: Site) -> None:
+    """No sends nothing; then the entry is closed, and the record is there for recalls."""
+    with Operator(site) as it:
         it.ready().does("S/M1/3", "K-2", kind="refused")
         wait_for("the refusal is handed on", lambda: records(site))
         press(it)
@@ -80,57 +85,44 @@ def test_it_is_asked_twice_and_can_be_undone(site: Site) -> None:
         press(it)
         press(it)
         wait_for_text(it, "scan your badge")
+        if len(causes(site)) != 1 or decided(site):
+            raise Difference(f"{causes(site)}")
         it.scan("B/anna")
         press(it)
         press(it)
-        wait_for_text(it, "It will be noted in")
-        press(it)
-        wait_for_text(it, "Undone")
-        it.script("window.later += 70_000")
-        time.sleep(2)
-        if decided(site):
-            raise Difference("what was undone is decided")
-        it.script("window.later = 0")  # as behind the reload: else the minute is over with it
-        press(it)
-        press(it)
-        wait_for_text(it, "It will be noted in")
-        it.load()
-        it.ready()
-        wait_for_text(it, "It will be noted in")
-        it.script("window.later += 70_000")
         wait_for_text(it, "Noted: the reel was taken off")
         (told,) = [one for one in records(site) if one["Kind"] == "decided"]
-        if told["Became"] != doubts.TAKEN_OFF or "anna" not in told["By"]:
-            raise Difference(f"a decision: {told}")
+        if told["Became"] != doubts.TAKEN_OFF or "anna" not in told["By"] or causes(site):
+            raise Difference(f"a decision: {told}, {causes(site)}")
 
 
-def test_an_inbox_that_is_away_is_tried_again(site: Site) -> None:
+def test_an_inbox_that_is_away_is_said(site: Site) -> None:
     folder = site.room / "line/decided"
-    with opened(site, CLOCKS) as it:
+    with Operator(site) as it:
         it.ready().scan("B/anna")
         it.does("S/M1/3", "K-2", kind="refused")
         wait_for("the refusal is handed on", lambda: records(site))
         folder.rename(folder.with_name("away"))
         press(it)
         press(it)
-        it.script("window.later += 70_000")
-        wait_for_text(it, "Not noted yet")
+        wait_for_text(it, "NOT noted: no answer")
         folder.with_name("away").rename(folder)
+        press(it)
+        press(it)
         wait_for("it is noted", lambda: decided(site) == 1)
 
 
 def test_a_log_in_that_may_not_decide(site: Site) -> None:
-    """The log-in of somebody who may decide is asked for on the red screen, for this decision
-    alone.
+    """The log-in of somebody who may decide for recalls is asked for on the red screen, for this
+    decision alone.
     """
     (site.room / "etc/deciders").write_text(site.lines["qm"])
-    with opened(site, CLOCKS) as it:
+    with Operator(site) as it:
         it.ready().scan("B/anna")
         it.does("S/M1/3", "K-2", kind="refused")
         wait_for("the refusal is handed on", lambda: records(site))
         press(it)
         press(it)
-        it.script("window.later += 70_000")
         wait_for_text(it, "NOT noted: this needs the log-in")
         it.script(
             """const form = document.querySelector('#verdict .off form'), [user, password] = form.querySelectorAll('input');

@@ -9,7 +9,7 @@ import sqlite3
 import threading
 from typing import Any, Dict, List, Mapping, Tuple
 
-PATIENCE = 600  # seconds for what must come: a machine may be busy
+PATIENCE = 120  # seconds for what must come: a machine may be busy
 SENDER = pathlib.Path(__file__).resolve().parents[1] / "tracedesk-send"
 MORNING = "2026-03-02T06:00:00Z"
 

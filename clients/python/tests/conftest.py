@@ -14,17 +14,26 @@ import pytest
 HERE = pathlib.Path(__file__).resolve().parent
 sys.path[:0] = [str(it) for it in (HERE.parent, HERE)]
 
-from desk_model import Model, Server  # noqa: E402
-from interlock_line import Line  # noqa: E402
+from line_lab import Line, Served  # noqa: E402
 
 
 def pytest_addoption(parser: pytest.Parser) -> None:
     about = "so many runs of senders under a model of what is outside (15)"
     parser.addoption("--outside", type=int, default=15, metavar="N", help=about)
+    about = "so many walks of a machine that obeys the interlock (3)"
+    parser.addoption("--walks", type=int, default=3, metavar="N", help=about)
+
+
+@pytest.fixture(scope="session")
+def furnished(line_program: pathlib.Path, tmp_path_factory: pytest.TempPathFactory) -> pathlib.Path:
+    """A line's file with parts, sheets and reels."""
+    return Served(line_program, tmp_path_factory.mktemp("line")).furnished()
 
 
 @pytest.fixture
-def line(tmp_path: pathlib.Path) -> Iterator[Line]:
-    server = Server(Model(("1", "2")))
-    yield Line(tmp_path, server)
-    server.end()
+def line(
+    line_program: pathlib.Path, furnished: pathlib.Path, tmp_path: pathlib.Path
+) -> Iterator[Line]:
+    made = Line(line_program, tmp_path, furnished)
+    yield made
+    made.end()

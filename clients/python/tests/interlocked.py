@@ -4,11 +4,11 @@ and kills of the sender at random moments.
 
 usage: clients/python/tests/interlocked.py [--kills N] [--refusals N] [--tablets N] [--seed N]
 
-The sender is the package's, before a model of a desk. The plant's command writes each call with its
-time. The machine of the test takes `go` only while the last call says so and is younger than half a
-second. A killed sender calls nothing more, so that the machine stops; one of five hangs before it
-is killed. A sender that is started again must say `stop` until a start of work is accepted. A
-tablet talks to the desk alone; the sender reads of it in the list of scans that the proxy writes.
+The sender is the package's, before a line that `tracedesk-line serve` serves. The plant's command
+writes each call with its time. The machine of the test takes `go` only while the last call says so
+and is younger than half a second. A killed sender calls nothing more, so that the machine stops;
+one of five hangs before it is killed. A sender that is started again calls `go` only for the board
+that is in work, and not while a message waits. A tablet talks to the line alone.
 
 Two of five refusals come while something else goes wrong for 1.5 seconds: the sender is killed and
 started again, or it is suspended, or the desk is frozen, or the disk of the sender is full. The
@@ -41,8 +41,9 @@ from typing import Any, Callable, Dict, Iterator, List, Optional, Tuple, TypeVar
 
 import at_port
 from at_port import PATIENCE, SENDER
-from desk_model import Model, Server
-from tracedesk_dev import processes
+from line_lab import Served
+from tracedesk_dev import processes, program
+from tracedesk_ops import plant as installed
 
 YOUNG = 0.5  # seconds that a call permits for
 TROUBLES = ("a kill", "a suspend", "a frozen desk", "a full disk")
@@ -50,28 +51,47 @@ TROUBLED, LASTS = 0.4, 1.5  # share of refusals amid one, and its seconds
 Found = TypeVar("Found")
 
 
+class Passing(at_port.Answering):
+    """Passes requests on, each on a connection of its own, as a proxy does: a sender that hangs
+    holds no line.
+    """
+
+    def do_GET(self) -> None:
+        self.passed(None)
+
+    def do_POST(self) -> None:
+        self.passed(json.loads(self.body()))
+
+    def passed(self, body: Any) -> None:
+        line: Served = self.server.line  # type: ignore[attr-defined]  # set by Plant
+        status, text = line.asked(self.path, body)
+        self.reply(status, text.encode())
+
+
 class Plant:
-    """A sender, the file that its machine writes to, a tablet, and the calls of the plant's
+    """A line, a sender, the file that its machine writes to, and the calls of the plant's
     command.
     """
 
-    def __init__(self, room: pathlib.Path) -> None:
+    def __init__(self, line: pathlib.Path, room: pathlib.Path) -> None:
         self.room, self.out, self.log, self.number = room, room / "out", room / "calls", 0
-        self.scans = room / "scans"
         self.out.mkdir()
-        self.scans.mkdir()
         self.log.touch()
+        self.board = ""
         command = room / "permit"
         free = "ulimit -S -f unlimited"  # the log is on a disk that is never full
-        command.write_text(f'#!/bin/sh\n{free}\necho "$(date +%s.%N) $2 $3" >> {self.log}\n')
+        command.write_text(f'#!/bin/sh\n{free}\necho "$(date +%s.%N) $2" >> {self.log}\n')
         command.chmod(0o755)
-        self.server = Server(Model())
-        self.model = self.server.model
+        self.line = Served(line, room)
+        self.line.furnished(1_000_000)
+        self.line.begin()
+        proxy = at_port.Server(Passing)
+        proxy.line = self.line  # type: ignore[attr-defined]  # for Passing
         often = ["--every", "0.1", "--silence", "3"]
-        where = ["--url", self.server.url, "--spool", str(room / "spool")]
-        where += ["--follow", str(self.out), "--scans", str(self.scans)]
+        where = ["--url", proxy.url, "--spool", str(room / "spool")]
         lock = ["--interlock", str(command), "--machine", "M1"]
-        self.words = [sys.executable, str(SENDER), *where, *lock, *often]
+        follow = ["--follow", str(self.out)]
+        self.words = [sys.executable, str(SENDER), *where, *follow, *lock, *often]
 
     def start(self) -> None:
         self.sender = subprocess.Popen(
@@ -89,32 +109,26 @@ class Plant:
             time.sleep(0.01)
 
     def end(self) -> None:
-        self.kill()
-        self.server.end()
+        if hasattr(self, "sender"):
+            self.kill()
+        self.line.process.send_signal(signal.SIGCONT)
+        self.line.end()
 
     def message(self, word: str, **body: Any) -> Dict[str, Any]:
-        self.number += 1
-        at = time.strftime("%Y-%m-%dT%H:%M:%SZ", time.gmtime())
-        return at_port.told(word, f"u{self.number}", "M1", at, Machine="M1", **body)
+        return self.line.message(word, Machine="M1", **body)
 
     def say(self, *messages: Dict[str, Any]) -> str:
         """The machine writes messages; the UniqueID of the last one."""
+        self.number += 1
         (self.out / "x.tmp").write_text("".join(json.dumps(it) + "\n" for it in messages))
         (self.out / "x.tmp").rename(self.out / f"{self.number:09}.jsonl")
         return str(messages[-1]["UniqueID"])
 
-    def tablet(self, word: str, **body: Any) -> str:
-        """A tablet says something to the desk, and the proxy writes it into its list."""
-        its = self.message(word, **body)
-        status, _ = self.model.say(json.dumps(its).encode())
-        with open(self.scans / "2026-03-02.jsonl", "a") as file:
-            print(json.dumps({"Status": str(status), "Message": json.dumps(its)}), file=file)
-        return str(its["UniqueID"])
-
     def begin_board(self) -> None:
         """The machine completes its board, and starts the next one."""
-        done = [self.message("WorkCompleted", Board=self.model.board)] if self.model.board else []
-        self.say(*done, self.message("WorkStarted", Board=f"B{self.number}"))
+        done = [self.message("WorkCompleted", Board=self.board)] if self.board else []
+        self.board = f"B{self.number}"
+        self.say(*done, self.message("WorkStarted", Board=self.board))
 
     def is_idle(self) -> bool:
         """Whether nothing of the machine waits for an answer."""
@@ -140,7 +154,8 @@ class Plant:
 
     def is_permitted(self) -> bool:
         last = list(self.calls())[-1:]
-        return bool(last) and last[0][1] == "go" and time.time() - last[0][0] < YOUNG
+        is_young = bool(last) and time.time() - last[0][0] < YOUNG
+        return is_young and last[0][1:] == ("go", self.board)
 
     def refusal(self, from_tablet: bool, trouble: str = "", ahead: float = 0.0) -> float:
         """Seconds from the answer that refuses until the machine stands. A trouble begins so long
@@ -154,28 +169,31 @@ class Plant:
             if trouble and ahead > 0:
                 held.enter_context(self.amid(trouble))
                 time.sleep(ahead)
-            if from_tablet:
-                uid = self.tablet("MaterialsSpliced", Slot="1", Reel="WRONG")
-            else:
-                board = self.model.board
-                uid = self.say(self.message("MaterialsInstalled", Board=board, Designators=["9"]))
+            refused = self.refused(from_tablet)
             if trouble and ahead <= 0:
                 time.sleep(-ahead)
                 held.enter_context(self.amid(trouble))
-        refused = self.wait_for(lambda: self.model.refused_at.get(uid))
         self.wait_for(lambda: self.is_stopped_for_it(refused))
         time.sleep(2 * YOUNG if trouble else 0)
         if self.is_permitted():
             raise AssertionError(f"it works again, amid {trouble or 'nothing'}")
         took = self.permitted_until(refused) - refused
-        if from_tablet:
-            self.tablet("MaterialsUnloaded", Slot="1")
-            self.tablet("MaterialsLoaded", Slot="1", Reel=f"1-K{self.number}")
+        self.line.decide(len(self.line.book()))
         return took
+
+    def refused(self, from_tablet: bool) -> float:
+        """Something is refused; when. What the machine says is refused once the sender has sent
+        it: the moment before that counts.
+        """
+        if from_tablet:
+            assert self.line.scan("MaterialsSpliced", "1", "WRONG")
+        else:
+            self.say(self.message("MaterialsInstalled", Board=self.board, Designators=["9"]))
+        return time.time()
 
     def is_stopped_for_it(self, since: float) -> bool:
         """Whether the command was called with `stop` because of a refusal."""
-        return any(it[1] == "stop" and "refused" in it[2] for it in self.calls() if it[0] > since)
+        return any(it[1] == "stop" and "Open" in it[2] for it in self.calls() if it[0] > since)
 
     def permitted_until(self, since: float) -> float:
         """Until when the machine might work after a moment: a call permits until the next one, and
@@ -195,7 +213,7 @@ class Plant:
         elif trouble == "a suspend":
             self.sender.send_signal(signal.SIGSTOP)
         elif trouble == "a frozen desk":
-            self.model.is_silent = True
+            self.line.process.send_signal(signal.SIGSTOP)
         else:
             self.fill_disk(0)
         yield
@@ -205,7 +223,7 @@ class Plant:
         elif trouble == "a suspend":
             self.sender.send_signal(signal.SIGCONT)
         elif trouble == "a frozen desk":
-            self.model.is_silent = False
+            self.line.process.send_signal(signal.SIGCONT)
         else:
             self.fill_disk(resource.RLIM_INFINITY)
 
@@ -215,18 +233,14 @@ class Plant:
         resource.prlimit(self.sender.pid, resource.RLIMIT_FSIZE, (most, hard))
 
     def killed(self, chance: random.Random) -> bool:
-        """Kills the sender around a start; whether the machine stops, and stays so until a start is
-        accepted anew.
+        """Kills the sender around a start; whether the machine stops, and then goes on with the
+        board in work alone.
         """
         self.wait_for(self.is_idle)
         self.log.write_text("")
         self.begin_board()
         if chance.random() < 0.7:
             self.wait_for(self.is_permitted)
-        if chance.random() < 0.3:
-            name = chance.choice(("1a", "9"))
-            board = self.model.board
-            self.say(self.message("MaterialsInstalled", Board=board, Designators=[name]))
         time.sleep(chance.uniform(0, 0.15))
         if chance.random() < 0.2:
             self.sender.send_signal(signal.SIGSTOP)
@@ -236,13 +250,10 @@ class Plant:
         time.sleep(YOUNG + 0.1)
         if self.is_permitted():
             return False
-        for it in self.out.glob("*.jsonl"):
-            it.unlink()
-        waits = self.waits()
         self.start()
-        self.wait_for(lambda: any(at > end + YOUNG for at, _, _ in self.calls()))
-        time.sleep(0.15)
-        return waits or not any(state == "go" for at, state, _ in self.calls() if at > end + YOUNG)
+        self.wait_for(self.is_permitted)
+        its = [why for at, state, why in self.calls() if at > end + YOUNG and state == "go"]
+        return set(its) == {self.board}
 
 
 def figures(kills: int, stopped: int, took: Dict[str, List[float]]) -> Dict[str, Any]:
@@ -264,6 +275,7 @@ def shown(told: Dict[str, Any]) -> str:
 
 
 def run(
+    line: pathlib.Path,
     kills: int,
     refusals: int,
     tablets: int,
@@ -282,7 +294,7 @@ def run(
     with tempfile.TemporaryDirectory(
         ignore_cleanup_errors=True
     ) as room, contextlib.ExitStack() as held:
-        plant = Plant(pathlib.Path(room))
+        plant = Plant(line, pathlib.Path(room))
         held.callback(plant.end)
         plant.start()
         for number, deed in enumerate(deeds):
@@ -301,7 +313,7 @@ def run(
         plant.sender.terminate()
         plant.sender.wait()
         ended = list(plant.calls())[-1][1:]
-    if ended != ("stop", "the sender was ended"):
+    if ended != ("stop", "ended: the sender was ended"):
         raise AssertionError(f"after SIGTERM: {ended}")
     return figures(kills, stopped, took)
 
@@ -316,8 +328,14 @@ def main() -> int:
         reader.add_argument(f"--{name}", type=int, default=default, help=argparse.SUPPRESS)
     asked = reader.parse_args()
     os.environ.pop("TRACEDESK_PASSWORD", None)
+    line = installed.next_to(program.to_use(), "line")
     told = run(
-        asked.kills, asked.refusals, asked.tablets, asked.seed, lambda line: print(line, flush=True)
+        pathlib.Path(line or program.stop("there is no tracedesk-line: LINE=FILE")),
+        asked.kills,
+        asked.refusals,
+        asked.tablets,
+        asked.seed,
+        lambda line: print(line, flush=True),
     )
     print(shown(told))
     return 0 if told["stopped"] == told["kills"] else 1

@@ -1,5 +1,5 @@
 """The plant's command: kills, signals, and calls that hang. The sender is a process of its own
-before a model of a desk.
+before a line that is served.
 """
 from __future__ import annotations
 
@@ -21,17 +21,15 @@ BY_SIGTERM = (-signal.SIGTERM, 128 + signal.SIGTERM)  # a main thread that hangs
 
 
 @pytest.fixture
-def plant(tmp_path: pathlib.Path) -> Iterator[interlocked.Plant]:
-    made = interlocked.Plant(tmp_path)
+def plant(line_program: pathlib.Path, tmp_path: pathlib.Path) -> Iterator[interlocked.Plant]:
+    made = interlocked.Plant(line_program, tmp_path)
     yield made
-    if hasattr(made, "sender"):
-        made.kill()
-    made.server.end()
+    made.end()
 
 
 @pytest.mark.parametrize("many", [1, pytest.param(6, marks=pytest.mark.whole)])
-def test_refusals_and_kills_end_in_stop(many: int) -> None:
-    told = interlocked.run(kills=many, refusals=many, tablets=many, seed=1)
+def test_refusals_and_kills_end_in_stop(line_program: pathlib.Path, many: int) -> None:
+    told = interlocked.run(line_program, kills=many, refusals=many, tablets=many, seed=1)
     assert [told[it] for it in ("stopped", "refused by machine", "refused by tablet")] == [many] * 3
 
 
@@ -39,7 +37,7 @@ def test_a_start_that_is_handed_over_stops_while_the_desk_hangs(plant: interlock
     plant.start()
     plant.begin_board()
     plant.wait_for(plant.is_permitted)
-    plant.model.is_silent = True
+    plant.line.process.send_signal(signal.SIGSTOP)
     plant.say(plant.message("MaterialsScrapped", Slot="1", Quantity=1))
     handed = time.time()
     plant.begin_board()
@@ -55,8 +53,10 @@ def test_a_desk_that_hangs_stops(plant: interlocked.Plant) -> None:
     plant.wait_for(plant.is_permitted)
     time.sleep(4)  # longer than the silence after which it stops
     plant.wait_for(plant.is_permitted)  # a machine without messages may work while the desk answers
-    plant.model.is_silent = True
-    plant.wait_for(lambda: list(plant.calls())[-1][1:] == ("stop", "no answer for 3 seconds"))
+    plant.line.process.send_signal(signal.SIGSTOP)
+    plant.wait_for(
+        lambda: list(plant.calls())[-1][1:] == ("stop", "silent: no answer for 3 seconds")
+    )
 
 
 LIVES = """import sys, time; sys.path.insert(0, sys.argv[1]); from tracedesk import Spool
@@ -73,14 +73,15 @@ def test_a_program_that_is_killed_stops_its_machine(plant: interlocked.Plant) ->
     words = [sys.executable, "-c", LIVES, str(SENDER.parent), str(plant.room / "spool")]
     with subprocess.Popen(words) as program:
         plant.start()
+        plant.board = "B1"
         start = json.dumps(plant.message("WorkStarted", Board="B1")).encode()
         spool.Spool(plant.room / "spool").put(start)
         plant.wait_for(plant.is_permitted)
         program.kill()
-    wanted = "the machine isn't heard: the program of M1 doesn't run."
+    wanted = "silent: the program of M1 doesn't run"
     plant.wait_for(lambda: list(plant.calls())[-1][2].startswith(wanted))
     assert list(plant.calls())[-1][1] == "stop"
-    assert plant.model.board == "B1"
+    assert plant.line.state()["State"] == "go", "the line doesn't know that nobody hears"
 
 
 def hung(plant: interlocked.Plant, script: str) -> None:
@@ -91,25 +92,25 @@ def hung(plant: interlocked.Plant, script: str) -> None:
 
 def test_a_signal_ends_a_sender_in_a_call_that_hangs(plant: interlocked.Plant) -> None:
     called = plant.room / "called"
-    hung(plant, f"[ $2 = go ] && {{ touch {called}; exec sleep 600; }}")
+    hung(plant, f'case "$2" in go*) touch {called}; exec sleep 600;; esac')
     plant.start()
     plant.begin_board()
     plant.wait_for(called.exists)
     plant.sender.send_signal(signal.SIGTERM)
     assert plant.sender.wait(PATIENCE) in BY_SIGTERM
-    assert list(plant.calls())[-1][1:] == ("stop", "the sender was ended")
+    assert list(plant.calls())[-1][1:] == ("stop", "ended: the sender was ended")
 
 
 def test_a_signal_ends_a_sender_while_the_desk_hangs(plant: interlocked.Plant) -> None:
     plant.start()
     plant.begin_board()
     plant.wait_for(plant.is_permitted)
-    plant.model.is_silent = True
+    plant.line.process.send_signal(signal.SIGSTOP)
     plant.say(plant.message("MaterialsScrapped", Slot="1", Quantity=1))
     time.sleep(1)
     plant.sender.send_signal(signal.SIGTERM)
     assert plant.sender.wait(PATIENCE) in BY_SIGTERM
-    assert list(plant.calls())[-1][1:] == ("stop", "the sender was ended")
+    assert list(plant.calls())[-1][1:] == ("stop", "ended: the sender was ended")
 
 
 def test_machines_do_not_wait_for_each_other(plant: interlocked.Plant) -> None:
@@ -123,7 +124,7 @@ def test_machines_do_not_wait_for_each_other(plant: interlocked.Plant) -> None:
 
 
 def test_a_command_that_fails_stops(plant: interlocked.Plant) -> None:
-    hung(plant, "[ $2 = go ] && exit 3")
+    hung(plant, 'case "$2" in go*) exit 3;; esac')
     plant.start()
     plant.begin_board()
     plant.wait_for(lambda: any("ended with status 3" in why for _, _, why in plant.calls()))
@@ -139,14 +140,6 @@ def test_a_second_sender_of_a_machine_is_refused(plant: interlocked.Plant) -> No
     assert done.returncode == 2 and "another sender has its interlock" in done.stderr, done.stderr
 
 
-def test_the_command_gets_the_board(plant: interlocked.Plant) -> None:
-    (plant.room / "permit").write_text(f'#!/bin/sh\necho "$(date +%s.%N) $2 $4" >> {plant.log}\n')
-    plant.start()
-    plant.begin_board()
-    plant.wait_for(plant.is_permitted)
-    assert list(plant.calls())[-1][2] == plant.model.board
-
-
 @pytest.mark.parametrize("many", [1, pytest.param(10, marks=pytest.mark.whole)])
 def test_a_stopped_sender_says_no_old_go(plant: interlocked.Plant, many: int) -> None:
     """A sender that sleeps, with its computer or without, asks before it permits anything."""
@@ -155,11 +148,11 @@ def test_a_stopped_sender_says_no_old_go(plant: interlocked.Plant, many: int) ->
     plant.wait_for(plant.is_permitted)
     for _ in range(many):
         plant.sender.send_signal(signal.SIGSTOP)
-        plant.tablet("MaterialsUnloaded", Slot="1")
+        plant.line.scan("MaterialsUnloaded", "1")
         time.sleep(3.2)
         woken = time.time()
         plant.sender.send_signal(signal.SIGCONT)
         plant.wait_for(lambda: any(at > woken + 0.5 for at, _, _ in plant.calls()))
         assert not any(state == "go" for at, state, _ in plant.calls() if at > woken)
-        plant.tablet("MaterialsLoaded", Slot="1", Reel=f"1-K{plant.number}")
+        plant.line.scan("MaterialsLoaded", "1", "1-K1")
         plant.wait_for(plant.is_permitted)

@@ -350,7 +350,7 @@ def test_command_lines_that_ask_for_nothing(lab: Lab) -> None:
         ["a", "b"],
         ["--again", "nothing"],
         ["--put", lab.room / "none"],
-        ["--interlock", "true", "--machine", "M1"],  # no list of scans
+        ["--interlock", "true"],
     ]
     for words in each:
         done = lab.send(*words)

@@ -1,5 +1,5 @@
-"""The packaged proxy before a desk of the program: who may put what for the line, and what a sender
-reads there of others' scans.
+"""The packaged proxy before a line that is served: who may put what for it, and a sender's
+interlock.
 """
 from __future__ import annotations
 
@@ -22,7 +22,6 @@ ROOT = pathlib.Path(__file__).resolve().parents[3]
 sys.path[:0] = [str(ROOT / "station/tests"), str(ROOT / "ops")]
 import at_port  # noqa: E402
 from station_site import Site  # noqa: E402
-from tracedesk_dev import program as programs  # noqa: E402
 from tracedesk_ops import inboxes  # noqa: E402
 
 HAS_NGINX = shutil.which("nginx", path=os.environ.get("PATH", "") + ":/usr/sbin")
@@ -38,13 +37,11 @@ FOREIGN: List[Dict[str, str]] = [
 
 
 @pytest.fixture(scope="module")
-def site() -> Iterator[Any]:
+def site(program: pathlib.Path, line_program: pathlib.Path) -> Iterator[Any]:
     if not HAS_NGINX or not shutil.which("openssl"):
         pytest.skip("there is no nginx or openssl: apt-get install nginx-light openssl")
-    if not os.environ.get("PROGRAM") and not programs.is_built():
-        pytest.skip("there is no program: make build, or PROGRAM=FILE")
     with tempfile.TemporaryDirectory(prefix="LN-site-") as room:
-        with Site(os.environ.get("PROGRAM") or programs.own(), room) as made:
+        with Site(str(program), room) as made:
             yield made
 
 
@@ -107,7 +104,7 @@ def test_a_sender_puts_its_own_status(site: Any) -> None:
     ):
         path = f"/line/status/{name}.json"
         assert put(site, path, user, "{}", certificate=certificate) == status, (user, name)
-    assert site.asked("GET", "/line/status/op.json", "office")[::2] == (200, "{}")
+    assert (site.room / "line/status/op.json").read_text() == "{}"
 
 
 @pytest.mark.parametrize("headers", FOREIGN)
@@ -128,17 +125,6 @@ def message(word: str, uid: str, **body: Any) -> str:
     return json.dumps(at_port.told(word, uid, "tablet", at, Machine="M1", **body))
 
 
-def scans(site: Any) -> List[Tuple[str, str, str]]:
-    """What the list has: the UniqueID, the status and the slot of each scan."""
-    found = []
-    for it in json.loads(site.asked("GET", "/line/scans/", "office")[2]):
-        for line in site.asked("GET", f"/line/scans/{it['name']}", "office")[2].splitlines():
-            told = json.loads(line)
-            said = json.loads(told["Message"])
-            found.append((said["UniqueID"], told["Status"], said["MessageBody"]["Slot"]))
-    return found
-
-
 def plant(site: Any, reels: Tuple[str, ...] = ("K-1",)) -> None:
     site.say("PartDefined", {"PartNumber": "CAP"})
     site.say("PartDefined", {"PartNumber": "RES"})
@@ -151,23 +137,28 @@ def plant(site: Any, reels: Tuple[str, ...] = ("K-1",)) -> None:
     site.say("MaterialsLoaded", {"Machine": "M1", "Slot": "1", "Reel": "K-1"})
 
 
+def test_who_may_say_what_of_the_book(site: Any) -> None:
+    """People at the line and senders decide and hold; deciders release."""
+    said = {"By": "Anna", "Reason": "looked at"}
+    decision: Dict[str, Any] = {"Of": 99, "Became": "x"}
+    hold, release = {"Hold": "reel", "Name": "K-9"}, {"Release": "reel", "Name": "K-9"}
+    for user, path, told, status in (
+        ("office", "decisions", decision, 401),
+        ("op", "decisions", decision, 404),
+        ("op", "holds", hold, 200),
+        ("office", "releases", release, 401),
+        ("qm", "holds", hold, 401),
+        ("qm", "releases", release, 200),
+    ):
+        text = json.dumps({**told, **said})
+        assert site.asked("POST", f"/line/{path}", user, text)[0] == status, (user, path)
+    assert site.asked("GET", "/line/book?after=0", "office")[0] == 200
+    assert site.asked("GET", "/line/state?machine=M1")[0] == 401
+
+
 def tablet(site: Any, word: str, uid: str, **body: Any) -> int:
     status: int = site.asked("POST", "/station/messages", "op", message(word, uid, **body))[0]
     return status
-
-
-def test_the_proxy_lists_what_others_scan(site: Any) -> None:
-    plant(site)
-    assert tablet(site, "MaterialsSpliced", "t-1", Slot="1", Reel="WRONG") == 409
-    assert tablet(site, "MaterialsSpliced", "t-2", Slot="1", Reel="K-2") == 200
-    assert tablet(site, "MaterialsSpliced", "tracedesk-send asks 1", Slot="1", Reel="x") == 409
-    assert tablet(site, "WorkCompleted", "t-3", Board="B") == 409
-    spoken = site.asked("POST", "/messages", "op", message("MaterialsUnloaded", "t-4", Slot="9"))
-    assert spoken[0] == 409
-    wanted = [("t-1", "409", "1"), ("t-2", "200", "1"), ("t-4", "409", "9")]
-    assert [it for it in scans(site) if it[0].startswith("t")] == wanted
-    assert site.asked("GET", "/line/scans/")[0] == 401
-    assert put(site, "/line/scans/2026-01-01.jsonl", "op") == 403
 
 
 class Sender:
@@ -178,23 +169,23 @@ class Sender:
         self.out.mkdir()
         self.log.touch()
         permit = room / "permit"
-        permit.write_text(f'#!/bin/sh\necho "$2 $3" >> {self.log}\n')
+        permit.write_text(f'#!/bin/sh\necho "$2" >> {self.log}\n')
         permit.chmod(0o755)
         where = ["--url", site.url, "--ca", str(site.room / "etc/server.crt")]
         who = ["--cert", str(site.room / "etc/m2.crt"), "--key", str(site.room / "etc/m2.key")]
         spool = ["--spool", str(room / "spool"), "--follow", str(self.out)]
-        lock = ["--interlock", str(permit), "--machine", "M1", "--every", "0.5"]
+        lock = ["--interlock", str(permit), "--machine", "M1"]
         self.run = subprocess.Popen([sys.executable, str(SENDER), *where, *who, *spool, *lock])
 
     def say(self, text: str) -> None:
         (self.out / "x.tmp").write_text(text + "\n")
         (self.out / "x.tmp").rename(self.out / f"{time.time_ns()}.json")
 
-    def wait_for(self, state: str, why: str = "") -> None:
+    def wait_for(self, word: str) -> None:
         def last() -> str:
             return (self.log.read_text().splitlines() or [""])[-1]
 
-        until(lambda: last().startswith(state) and why in last(), last)
+        until(lambda: last().startswith(word), last)
 
 
 def until(holds: Callable[[], bool], last: Callable[[], str], seconds: float = 600.0) -> None:
@@ -211,15 +202,15 @@ def test_a_tablet_stops_and_mends_a_machine(site: Any, tmp_path: pathlib.Path) -
     it = Sender(site, tmp_path)
     try:
         it.say(message("WorkStarted", "w-1", Board="B1"))
-        it.wait_for("go", "B1")
+        it.wait_for("go B1")
         assert tablet(site, "MaterialsSpliced", "u-3", Slot="1", Reel="WRONG") == 409
-        it.wait_for("stop", "slot 1: MaterialsSpliced WRONG of tablet was refused")
+        it.wait_for("stop Open (slot 1, WRONG, WrongPart")
         assert tablet(site, "MaterialsSpliced", "u-4", Slot="1", Reel="K-1") == 200
-        it.wait_for("go", "B1")
+        it.wait_for("go B1")
         assert tablet(site, "MaterialsUnloaded", "u-5", Slot="1") == 200
-        it.wait_for("stop", "slot 1 is empty")
+        it.wait_for("stop AtSlot (slot 1, SlotEmpty")
     finally:
         it.run.terminate()
         it.run.wait()
     with contextlib.suppress(IndexError):
-        assert it.log.read_text().splitlines()[-1] == "stop the sender was ended"
+        assert it.log.read_text().splitlines()[-1] == "stop ended: the sender was ended"

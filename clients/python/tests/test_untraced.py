@@ -86,9 +86,7 @@ def test_reports_of_work_are_recorded_and_stay(lab: UntracedLab) -> None:
         status["Sender"],
         status["Fault"],
     ) == (5, 0, None, "m1", None)
-    machine = status["Machines"]["M1"]
-    assert (machine["State"], machine["LastRefused"]["Message"]["UniqueID"]) == (None, "bad4")
-    assert (lab.inbox / f"{machine['LastRefused']['Id']}.json").exists()
+    assert status["Machines"] == {}, "none has an interlock"
     # the page's own command: the request waits again, the reports do not
     done = lab.send("--again", "all")
     assert (done.returncode, done.stdout) == (6, b"1 wait again, as 000000000006\n"), done.stderr
@@ -107,19 +105,8 @@ def test_a_refused_reel_is_recorded_and_may_be_sent_again(lab: UntracedLab) -> N
         work("bad2", "MaterialsUnloaded", Slot="1"),
         sending.line("bad3"),
     ]
-    lab.send(
-        "--follow",
-        "-",
-        "--untraced",
-        lab.inbox,
-        "--status",
-        lab.status,
-        "--name",
-        "m1",
-        given=b"\n".join(given),
-    )
+    lab.send("--follow", "-", "--untraced", lab.inbox, given=b"\n".join(given))
     assert {it["Message"]["UniqueID"] for it in lab.records()} == {"bad1", "bad2"}
-    assert json.loads((lab.status / "m1.json").read_text())["Machines"]["M1"]["LastRefused"] == None
     assert lab.send("--again", "all").returncode == 0
     assert len(lab.names()) == 3
 

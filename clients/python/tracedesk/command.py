@@ -10,9 +10,9 @@ import signal
 import subprocess
 import threading
 import time
-from typing import Callable, List, Optional
+from typing import Callable, List
 
-from .interlock import Interlock, State
+from .interlock import Interlock
 from .spool import clock
 
 LONGEST_CALL = 2.0  # seconds that a call may take
@@ -21,8 +21,8 @@ LATE = 1.0  # seconds from a state to its call, or between two looks, after whic
 
 
 class Caller(threading.Thread):
-    """Calls COMMAND MACHINE STATE REASON BOARD at each change of a machine's state, and again and
-    again with the same one.
+    """Calls COMMAND MACHINE WORD at each change of a machine's word, and again and again with the
+    same one.
     """
 
     def __init__(
@@ -30,46 +30,43 @@ class Caller(threading.Thread):
     ) -> None:
         super().__init__(daemon=True, name=f"command of {machine}")
         self.states, self.machine, self.command, self.tell = states, machine, command, tell
-        self.called: Optional[State] = None
-        self.again_at, self.next_news, self.failed_until = 0.0, 0.0, 0.0
+        self.called, self.again_at, self.next_news, self.failed_until = "", 0.0, 0.0, 0.0
         self.looked = clock()
 
-    def state(self) -> State:
-        """The state now. Where nobody looked for long the sender was suspended: what it knew says
+    def word(self) -> str:
+        """The word now. If nobody looked for long the sender was suspended: what it knew says
         nothing of now.
         """
         now = clock()
         if now - self.looked > LATE:
             self.states.resumed = now
         self.looked = now
-        return self.states.state(self.machine)
+        return self.states.word(self.machine)
 
     def run(self) -> None:
         """Calls until the sender ends. Whatever a call finds, the next one comes."""
         while True:
             is_ended = bool(self.states.ended)
             try:
-                state = self.state()
-                if is_ended or state != self.called or clock() >= self.again_at:
+                word = self.word()
+                if is_ended or word != self.called or clock() >= self.again_at:
                     self.again_at = clock() + self.states.every
-                    self.call(state)
-                    self.called = state
+                    self.call(word)
+                    self.called = word
             except Exception as fault:
                 self.say(repr(fault))
             if is_ended:
                 return
             time.sleep(OFTEN)
 
-    def call(self, state: State) -> None:
+    def call(self, word: str) -> None:
         """One call. Until one succeeds the machine is stopped, since nobody knows what came of
-        it.
+        it. A call with `go` is ended once that isn't true any more.
         """
-        begun, it = clock(), self.states.machines[self.machine]
-        told = (self.machine, state.word, state.reason, state.board or "")
-        words = [text.replace("\0", "?") for text in told]
+        begun = clock()
         try:
             done = subprocess.Popen(
-                [*self.command, *words],
+                [*self.command, self.machine, word.replace("\0", "?")],
                 stdin=subprocess.DEVNULL,
                 stdout=subprocess.DEVNULL,
                 start_new_session=True,
@@ -77,10 +74,11 @@ class Caller(threading.Thread):
         except (OSError, ValueError, subprocess.SubprocessError) as fault:
             self.failed(str(fault))
             return
-        is_old = state.word == "go" and clock() - begun > LATE
+        is_go = word.startswith("go ")
+        is_old = is_go and clock() - begun > LATE
         while not is_old and done.poll() is None and clock() - begun < LONGEST_CALL:
             time.sleep(SHORT)
-            is_old = self.state().word != "go" and state.word == "go"
+            is_old = is_go and self.word() != word
         if done.poll() is None:
             with contextlib.suppress(OSError):
                 os.killpg(done.pid, signal.SIGKILL)
@@ -90,11 +88,11 @@ class Caller(threading.Thread):
         elif done.returncode:
             self.failed(f"it ended with status {done.returncode}")
         elif clock() >= self.failed_until:
-            it.command_fault = None
+            self.states.faults.pop(self.machine, None)
 
     def failed(self, why: str) -> None:
         self.failed_until = clock() + self.states.every
-        self.states.machines[self.machine].command_fault = f"the plant's command: {why}"
+        self.states.faults[self.machine] = f"fault: the plant's command: {why}"
         self.say(why)
 
     def say(self, why: str) -> None:
@@ -104,35 +102,28 @@ class Caller(threading.Thread):
 
 
 class Command:
-    """The callers of all machines, and who looks at the spool and its disk beside them."""
+    """The callers of all machines, and who looks at the spool for them."""
 
     def __init__(self, states: Interlock, command: str, tell: Callable[[str], None]) -> None:
-        self.states, self.tell = states, tell
-        self.callers = [Caller(states, it, shlex.split(command), tell) for it in states.listed]
+        self.states, self.command = states, command
+        self.callers = [Caller(states, it, shlex.split(command), tell) for it in states.states]
 
     def begin(self) -> None:
+        threading.Thread(target=self.look, daemon=True).start()
         for it in self.callers:
             it.start()
-        threading.Thread(target=self.look, daemon=True).start()
 
     def look(self) -> None:
-        """Looks at what waits: a start that the machine has handed over stops it, whatever the
+        """Looks at the spool: a start that the machine has handed over stops it, whatever the
         sender waits for meanwhile.
         """
-        disk_at = 0.0
         while not self.states.ended:
-            with contextlib.suppress(Exception):
-                self.states.look_at_feeders()
-                self.states.look_ahead(self.states.spool.names())
-                if clock() >= disk_at:
-                    disk_at = clock() + self.states.every
-                    self.states.look_at_disk()
+            self.states.look()
             time.sleep(OFTEN)
 
     def end(self, why: str = "the sender has ended") -> None:
         """Stops the machines. It waits for each call as long as that may take."""
-        if not self.states.ended:
-            self.states.ended = why
+        self.states.ended = self.states.ended or f"ended: {why}"
         end = time.monotonic() + 2 * LONGEST_CALL
         for it in self.callers:
             if it.is_alive() and it is not threading.current_thread():

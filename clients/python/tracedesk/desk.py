@@ -3,7 +3,6 @@ from __future__ import annotations
 
 import base64
 import contextlib
-import copy
 import csv
 import dataclasses
 import email.utils
@@ -371,25 +370,15 @@ class Desk:
             )
         return told, is_desk and abs(ahead) < 60
 
-    @property
-    def address(self) -> str:
-        """The machine and the port, by which two senders of a desk are told from those of two
-        desks.
-        """
-        host = str(self.url.hostname)
-        with contextlib.suppress(OSError, UnicodeError):
-            host = socket.gethostbyname(host)
-        return f"{host}:{self.url.port or self.url.scheme}"
-
-    def hasty(self, seconds: float = 2.0) -> "Desk":
-        """This desk with a patience of some seconds, for what may fail. Its own connection is
-        closed: a desk serves one at a time.
-        """
-        self.close()
-        made = copy.copy(self)
-        made.patience = made.timeout = seconds
-        made.waits, made.tell = False, lambda line: None
-        return made
+    def got(self, target: str, seconds: float) -> Tuple[int, bytes]:
+        """One question, without another try; an error if it isn't answered in so many seconds."""
+        try:
+            with self.within(time.monotonic() + seconds, lambda: None):
+                status, body, _ = self.once("GET", target, None, {})
+        except Exception:
+            self.close()
+            raise
+        return status, body
 
     def report(self, path: str, detail: Optional[int] = None, **asked: Any) -> List[Any]:
         """The rows of a report."""

@@ -7,7 +7,6 @@ they are handed on to the inbox of the line.
 from __future__ import annotations
 
 import base64
-import datetime
 import hashlib
 import json
 import re
@@ -25,18 +24,6 @@ TOKEN = re.compile(rb'"[^"\\]*(?:\\.[^"\\]*)*(?:"|\\?\Z)|[\[\]{}]', re.DOTALL)
 def utc(seconds: Optional[float] = None) -> str:
     """A second of the clock, as a record has it: now, or another one."""
     return time.strftime("%Y-%m-%dT%H:%M:%SZ", time.gmtime(seconds))
-
-
-def in_utc(text: Any) -> str:
-    """The time of a message as a record has it, in UTC; empty where it is none that the desk
-    reads.
-    """
-    try:
-        at = datetime.datetime.fromisoformat(re.sub("[Zz]$", "+00:00", str(text)))
-        at = at.astimezone(datetime.timezone.utc) if at.tzinfo else at
-        return f"{at:%Y-%m-%dT%H:%M:%S}Z"
-    except (ValueError, OverflowError):
-        return ""
 
 
 def spelled(told: Dict[str, Any]) -> bytes:

@@ -21,7 +21,8 @@ examples:
   tracedesk-send --spool m1 --again 2026-03-02T06:00Z
   tracedesk-send --spool m1 --stay --untraced /var/lib/tracedesk/untraced \\
       --status /var/lib/tracedesk/status
-  tracedesk-send --spool m1 --follow /m1/out --interlock /usr/local/bin/permit --machine M1
+  tracedesk-send --url https://desk.plant --ca server.crt --user m1 --password-file m1.password \\
+      --spool m1 --follow /m1/out --interlock /usr/local/bin/permit --machine M1
   tracedesk-send --url https://desk.plant --ca server.crt --user m1 --password-file m1.password \\
       --check
   tracedesk-send --validate first.jsonl
@@ -54,17 +55,13 @@ may put messages in. The file is on a disk of this computer.
                  and the state of machines: a folder, or https://desk.plant/line/status
                  The proxy takes it under the name of the log-in only
 --name           the sender's name there (that of --user, else of the spool)
---interlock      a command that is called as COMMAND MACHINE STATE REASON BOARD, at each change and
-                 every --every seconds (2). STATE is `go` only while the desk says that the board is
-                 in work and the sheet's slots have good reels, nothing that was refused is open,
-                 no start of work waits, and who feeds the spool lives; else `stop`.
+--interlock      a command that is called as COMMAND MACHINE WORD, at each change and every --every
+                 seconds (0.5). WORD is 'go BOARD' while the line says that BOARD may be worked on,
+                 nothing waits here, and who feeds the spool lives; else 'stop CAUSE'.
                  docs/interlock.md has the rules
 --release        says that a bridge or a program feeds the spool no more: else it stops the machine
 --machine NAME   a machine of the interlock; --silence SECONDS without an answer stop it (10). One
                  sender has a machine
---scans          where the proxy lists what others scanned: a folder, or
-                 https://desk.plant/line/scans (with an https --url that of it). Until it was read,
-                 and while it isn't there, the machine is stopped
 --check          says whether the desk, its certificate, the clock and the log-in are right
 --validate       looks at messages, a line each, and sends nothing: '-' is standard input. Members
                  that nobody reads are warned of
@@ -115,8 +112,8 @@ import sqlite3
 import sys
 from typing import List, Optional
 
-from . import __version__, by_hand, command, desk, disk, interlock, scans, sender, spool
-from . import untraced, validate
+from . import __version__, by_hand, command, desk, disk, interlock, sender, spool, untraced
+from . import validate
 from .console import NAME, ended, say, tell
 
 NAMED = re.compile("[A-Za-z0-9_-][A-Za-z0-9._-]{0,63}")
@@ -157,22 +154,13 @@ def run_spool(asked: argparse.Namespace, to: desk.Desk) -> int:
         follower = sender.Lines(into, sys.stdin.buffer, lambda name: say(f"kept {name}"), tell)
     elif asked.follow:
         follower = sender.Folder(into, pathlib.Path(asked.follow), tell)
-    states = interlock.Interlock(
-        into, asked.machine, asked.silence, asked.every, bool(asked.interlock)
-    )
+    states = interlock.Interlock(into, asked.machine, asked.silence, asked.every)
     calls = command.Command(states, asked.interlock, tell) if asked.interlock else None
     run = sender.Sender(into, to, asked.stop_at_refusal, tell, states, calls, *places_of(asked))
     if calls:
-        follow_scans(asked, states)
         command.end_at_signal(calls)
     run.run(follower, asked.stay)
     return 1 if run.aside else 0
-
-
-def follow_scans(asked: argparse.Namespace, states: interlock.Interlock) -> None:
-    """Follows the list of what others scanned: that of the proxy, unless another one is named."""
-    place = asked.scans or asked.url.rstrip("/") + scans.PATH
-    scans.Scans(states, place, lambda url: desk_of(asked, url, asked.silence / 2), tell).begin()
 
 
 def check(asked: argparse.Namespace) -> int:
@@ -254,7 +242,7 @@ def reader_of_words() -> argparse.ArgumentParser:
     what.add_argument("--list", choices=(*by_hand.STATES, "all"))
     what.add_argument("--check", action="store_true")
     what.add_argument("--validate", metavar="FILE")
-    for name in ("untraced", "status", "name", "interlock", "scans"):
+    for name in ("untraced", "status", "name", "interlock"):
         reader.add_argument(f"--{name}")
     reader.add_argument("--machine", action="append", default=[])
     reader.add_argument("--silence", type=float, default=interlock.SILENCE)
@@ -271,14 +259,6 @@ def words() -> argparse.Namespace:
         reader.error("name --spool FILE, where messages wait; --check and --validate want none")
     if bool(asked.interlock) != bool(asked.machine):
         reader.error("--interlock COMMAND wants --machine NAME, of each machine that it stops")
-    if asked.scans and not asked.interlock:
-        reader.error("--scans is for --interlock: it says where the proxy's list of scans is")
-    if asked.interlock and not asked.scans and not asked.url.startswith("https:"):
-        reader.error(
-            "--interlock wants the proxy's list of what others scanned: an https --url, or --scans"
-        )
-    if asked.scans and "://" not in asked.scans and not pathlib.Path(asked.scans).is_dir():
-        reader.error(f"--scans: {asked.scans} is no folder: name that of the proxy's list of scans")
     if asked.silence <= 0 or asked.every <= 0:
         reader.error("--silence and --every are numbers of seconds above 0")
     if asked.name is not None and not NAMED.fullmatch(asked.name):

@@ -8,9 +8,9 @@ import os
 import pathlib
 import threading
 import time
-from typing import Any, BinaryIO, Callable, Dict, Iterator, List, Optional, Tuple
+from typing import Any, BinaryIO, Callable, Dict, Iterator, Optional, Tuple
 
-from . import answers, asking, forms, records, untraced, witness
+from . import answers, forms, records, untraced
 from .console import NEWS_OF_A_FAULT, patiently
 from .desk import Desk
 from .command import Command
@@ -21,11 +21,19 @@ from .spool import MOST_READ, Spool, uid_of
 LOOK = 0.2  # seconds between two looks at a folder
 FOLLOWER = "the sender's own source"  # the name of its lease
 
-Differs = Tuple[str, bytes, Dict[str, Any]]  # a record, with its id and what a status says of it
+JUDGED = ("WorkStarted", "WorkCompleted")  # after which a machine's state is another
 
 
-def machine_of(told: Dict[str, Any]) -> str:
-    return str(answers.body_of(told).get("Machine"))
+def contradicts(told: Dict[str, Any], answer: answers.Answer) -> bool:
+    """Whether a machine names another reel for a piece than the desk, or one that can't be
+    compared: then the line may have stopped it.
+    """
+    named = answers.body_of(told).get("MachineReels")
+    if not isinstance(answer, answers.Accepted) or named is None:
+        return False
+    if not isinstance(named, list) or len(named) != len(answer.reels):
+        return True
+    return any(its not in (None, desk) for its, desk in zip(named, answer.reels))
 
 
 class Stopped(Exception):
@@ -48,9 +56,7 @@ class Sender:
         status: Optional[untraced.Place] = None,
     ) -> None:
         self.spool, self.desk, self.stops, self.tell = spool, desk, stops, tell
-        self.interlock = interlock or Interlock(spool, [])
-        self.interlock.is_needed = bool(self.interlock.is_used or status)
-        self.command, self.asker = command, asking.Asker(self.interlock, desk)
+        self.interlock, self.command = interlock or Interlock(spool, []), command
         self.line = untraced.Line(spool, desk, self.interlock, inbox, status, tell)
         self.sent = self.aside = 0
         self.news, self.dropped, self.next_news = threading.Event(), 0, 0.0
@@ -63,8 +69,6 @@ class Sender:
         told = records.as_read(text if len(text) <= MOST_READ else b"")
         if len(text) > forms.LONGEST_MESSAGE:
             return answers.LINE_TOO_LONG, told
-        if answers.word_of(told) == "WorkStarted":
-            self.asker.look(machine_of(told))
         _, is_tried = patiently(lambda: self.spool.take(name), self.tell)
         try:
             return (
@@ -79,28 +83,23 @@ class Sender:
     def send_waiting(self) -> int:
         """Sends each message that waits; how many they were."""
         names = patiently(self.spool.names, self.tell)
-        self.interlock.look_ahead(names)
         for name in names:
-            self.asker.ask()
+            self.interlock.ask(self.desk)
             answer, told = self.answer_to(name)
             is_taken, is_report = answers.is_taken(answer), records.is_report(told)
+            if (
+                answers.word_of(told) in JUDGED
+                or contradicts(told, answer)
+                or not is_taken
+                and records.is_recorded(told)
+            ):
+                self.interlock.forget(told)  # until the answer is kept its message waits
+                self.interlock.ask(self.desk)
             if not is_taken:
-                self.interlock.judged(name, told, answer)  # a machine is stopped before all else
                 self.refused(name, answer, is_report)
-            differs = self.compare(told, answer)
-            self.keep(name, answer, [(id_, text) for id_, text, _ in differs])
-            if is_taken:
-                if self.interlock.is_needed and answers.word_of(told) == "WorkStarted":
-                    # a later start may wait by now
-                    self.interlock.look_ahead(patiently(self.spool.names, self.tell))
-                self.interlock.judged(name, told, answer)
-                for shown in (it for _, _, it in differs if it):
-                    self.interlock.differ(machine_of(told), witness.looked_up(self.desk, shown))
-            elif is_report:
-                self.interlock.refused(machine_of(told), self.spool.kept(name).refusal)
-                self.interlock.news()
-                if self.stops:
-                    raise self.stopped(name, answer)
+            self.keep(name, answer)
+            if is_report and not is_taken and self.stops:
+                raise self.stopped(name, answer)
         return len(names)
 
     def stopped(self, name: str, answer: answers.Answer) -> "Stopped":
@@ -123,27 +122,10 @@ class Sender:
         )
         self.aside += 1
 
-    def compare(self, told: Dict[str, Any], answer: answers.Answer) -> List[Differs]:
-        """Compares the machine's reels with the desk's. What differs stops the machine; its records
-        are kept with the answer.
-        """
-        if (fault := witness.fault_of(told)) and answers.is_taken(answer):
-            self.tell(f"{machine_of(told)}: {fault}")
-            self.interlock.unread(machine_of(told), told, fault)
-        found = witness.made(told, answer, f"tracedesk-send {self.spool.name}")
-        for shown in (it for _, _, it in found if it):
-            self.interlock.differ(machine_of(told), shown)
-            self.tell(
-                f"board {shown['Board']}: the machine took reel {shown['Machine']} for "
-                f"{' '.join(shown['Designators'])}, and the desk has {shown['Desk']}: "
-                f"a person decides about it{self.line.where_kept()}"
-            )
-        return found
-
-    def keep(self, name: str, answer: answers.Answer, made: List[Tuple[str, bytes]]) -> None:
+    def keep(self, name: str, answer: answers.Answer) -> None:
         """Keeps an answer, and what follows of it."""
         at = records.utc()
-        patiently(lambda: self.spool.done(name, answer, at, made), self.tell)
+        patiently(lambda: self.spool.done(name, answer, at), self.tell)
         self.sent += 1
         self.look_at_what_is_kept()
 
@@ -166,9 +148,9 @@ class Sender:
         """Sends until nothing waits; with a follower until that has ended; or for good."""
         with contextlib.ExitStack() as held:
             held.enter_context(self.spool.sending())
-            held.enter_context(self.interlock.held(self.desk.address))
             held.callback(self.line.look)
             if self.command:
+                held.enter_context(self.interlock.held(self.command.command))
                 held.callback(self.command.end)
                 self.command.begin()
             self.line.begin()
@@ -179,13 +161,12 @@ class Sender:
                 self.spool.release(FOLLOWER)
             while True:
                 is_ended = follower is None or follower.is_ended
-                self.interlock.is_stuck = follower is not None and follower.is_stuck
                 if self.send_waiting():
                     continue
                 if is_ended and not stays:
                     break
                 self.news.clear()
-                self.asker.ask()
+                self.interlock.ask(self.desk)
                 if not self.spool.names() and not self.news.wait(LOOK):
                     self.desk.close()
             if follower and follower.fault:
@@ -198,18 +179,13 @@ class Follower:
     """
 
     def __init__(self, spool: Spool, tell: Callable[[str], None] = lambda line: None) -> None:
-        self.spool, self.say, self.is_ended, self.is_stuck = spool, tell, False, False
+        self.spool, self.tell, self.is_ended = spool, tell, False
         self.fault: Optional[OSError] = None
 
     def begin(self, news: threading.Event) -> None:
         self.news = news
         self.spool.renew(FOLLOWER)
         threading.Thread(target=self.run, daemon=True).start()
-
-    def tell(self, line: str) -> None:
-        """Reports what keeps it from taking messages in."""
-        self.is_stuck = True
-        self.say(line)
 
     def held(self) -> "contextlib.AbstractContextManager[None]":
         """Held while it follows."""
@@ -248,7 +224,6 @@ class Lines(Follower):
         try:
             for line in lines_of(self.stream):
                 name = patiently(lambda: self.spool.put(line), self.tell)
-                self.is_stuck = False
                 self.news.set()
                 self.acknowledge(name)
         except OSError as fault:
@@ -288,7 +263,6 @@ class Folder(Follower):
     def run(self) -> None:
         while True:
             patiently(self.look, self.tell)
-            self.is_stuck = False
             self.spool.renew(FOLLOWER)
             time.sleep(LOOK)
 

@@ -66,13 +66,6 @@ class Kept(NamedTuple):
     record: str
 
     @property
-    def refusal(self) -> Dict[str, Any]:
-        """A report of work that was refused, as a status has it."""
-        answer = answers.read_object(self.answer.text) if self.answer else {}
-        told = {"Answer": answer, "Message": records.as_read(self.text)}
-        return {**told, "At": self.answered, "Id": self.record}
-
-    @property
     def why(self) -> str:
         """Why it was set aside, and what to do."""
         return answers.why(self.answer) if self.answer and self.state == "aside" else ""
@@ -242,6 +235,18 @@ class Spool:
         )[0]
         return int(count), float(came)
 
+    def waits(self) -> Tuple[float, int, bool]:
+        """The numbers of the first and the last message that waits, and whether a start of work
+        does.
+        """
+        oldest, newest = self.rows("SELECT min(n), max(n) FROM message WHERE state = 'waiting'")[0]
+        starts = self.rows(
+            "SELECT max(instr(text, CAST('WorkStarted' AS BLOB))) FROM (SELECT text FROM message"
+            " WHERE state = 'waiting' ORDER BY n DESC LIMIT ?)",
+            AT_ONCE,
+        )
+        return oldest or float("inf"), newest or 0, bool(starts[0][0])
+
     def text(self, name: str) -> bytes:
         return bytes(self.row(name)[0])
 
@@ -262,21 +267,13 @@ class Spool:
         """Says that a message which was taken was not sent, or had its answer."""
         self.change("UPDATE message SET tried = 0 WHERE n = ?", number_of(name))
 
-    def done(
-        self,
-        name: str,
-        answer: answers.Answer,
-        at: str = "",
-        made: Iterable[Tuple[str, bytes]] = (),
-    ) -> None:
-        """Keeps the answer to a message, the records that are made of it, and where it belongs
+    def done(self, name: str, answer: answers.Answer, at: str = "") -> None:
+        """Keeps the answer to a message, the record that is made of it, and where it belongs
         now.
         """
         record, is_taken = "", answers.is_taken(answer)
         with self.whole():
             text = self.text(name)
-            for id_, its in made:
-                self.keep_made(id_, its)
             read = text if len(text) <= MOST_READ else b""
             if not is_taken and records.is_recorded(records.as_read(read)):
                 record, its = records.record(
@@ -375,15 +372,6 @@ class Spool:
                 " time is written as 2026-03-02T06:00Z"
             )
         return records.is_report(self.message(name))
-
-    def last_refused(self) -> Dict[str, Dict[str, Any]]:
-        """Of each machine the last report of work that was refused, as a status has it."""
-        its = [it.refusal for it in self.all("WHERE state = 'aside' AND record <> ''")]
-        return {
-            str(answers.body_of(it["Message"]).get("Machine")): it
-            for it in its
-            if records.is_report(it["Message"])
-        }
 
     def again(self, names: Iterable[str]) -> List[str]:
         """Puts requests that were set aside last; their new names."""

@@ -10,7 +10,7 @@ from typing import Any, Callable, Dict, List, Optional
 
 from .console import NEWS_OF_A_FAULT, PAUSE_OF_A_FAULT
 from .desk import Desk
-from .interlock import PERIOD, Interlock
+from .interlock import Interlock
 from .records import spelled, utc
 from .disk import sync_folder, write_synced
 from .spool import Spool
@@ -19,6 +19,7 @@ READABLE = 0o644  # whoever collects records, and the proxy, are other users
 
 
 TIMEOUT = 10.0  # seconds for one file
+PERIOD = 15  # seconds for which a status file counts
 
 
 class NotPut(OSError):
@@ -81,8 +82,7 @@ class Line:
         def run() -> None:
             while True:
                 self.look()
-                self.interlock.changed.wait(PAUSE_OF_A_FAULT)
-                self.interlock.changed.clear()
+                time.sleep(PAUSE_OF_A_FAULT)
 
         if self.inbox or self.status:
             threading.Thread(target=run, daemon=True).start()

@@ -13,28 +13,21 @@ const SLOTS = `slot,reel,part,remaining,minutes_left
 1,K-3,CAP,500,30
 9,K-9,LED,5,0
 `;
-const answers = { kit: KIT, slots: SLOTS, status: {} };
+const answers = { kit: KIT, slots: SLOTS };
 
-/** Answers as the proxy does: a report of now, a status file, the list of these files. */
+/** Answers as the proxy does: a report of now; 503 without a text. */
 globalThis.fetch = async (target) => {
   const headers = { "X-Station-Now": String(NOW / 1000), "X-Desk-Answered": String(NOW / 1000) };
   const path = new URL(target).pathname;
-  if (path === "/line/status/") {
-    const list = Object.keys(answers.status).map((name) => ({ name, type: "file" }));
-    return new Response(JSON.stringify(list), { headers });
-  }
-  if (path.startsWith("/line/status/")) {
-    return new Response(answers.status[decodeURIComponent(path.split("/").at(-1))], { headers });
-  }
-  return new Response(answers[path.split("/").at(-1)], { headers });
+  const text = answers[path.split("/").at(-1)];
+  return new Response(text, { headers, status: text ? 200 : 503 });
 };
 
 const clock = await import("../../clock.js");
 const { Model, period } = await import("../../model.js");
 clock.hear(new Headers({ "X-Station-Now": String(NOW / 1000) }));
 
-async function model(status = {}) {
-  answers.status = status;
+async function model() {
   const made = new Model(SETUP, () => {});
   for (const line of made.lines) {
     await made.slots(line);
@@ -88,23 +81,21 @@ test("free reels for a slot, the first to end first", async () => {
   assert.equal(free.part, "CAP");
 });
 
-test("what stops a machine names the reel to load", async () => {
-  const stop = { State: "stop", Cause: "expired", Slot: "1", Reel: "K-3" };
-  const told = { At: "2026-03-02T06:01:04Z", Period: 15, Machines: { M1: stop } };
-  const made = await model({ "m1.json": JSON.stringify(told) });
+test("what stops a machine names the reel to load, and its entry", async () => {
+  const causes = [
+    { Cause: "AtSlot", Slot: "1", Reel: "K-3", Refusal: "Expired" },
+    { Cause: "Open", Entry: 7, Kind: "handling", Slot: "1", Reel: "K-9", Refusal: "WrongPart" },
+  ];
+  answers.state = JSON.stringify({ State: "stop", Board: null, Causes: causes });
+  answers.undecided = "n,machine,told\n7,M1,x\n";
+  const made = await model();
   await made.lookAtMachines();
-  assert.equal(made.loadFor(made.machines.states.get("M1")).reel, "F-2");
-  answers.status = {};
+  const [first] = made.machines.get("M1").causes;
+  assert.equal(made.loadFor({ machine: "M1", ...first }).reel, "F-2");
+  assert.equal(made.entryOf({ Machine: "M1", Slot: "1", Reel: "K-9" }), 7);
+  assert.equal(made.entryOf({ Machine: "M1", Slot: "2", Reel: "K-9" }), null);
+  assert.equal(made.entries[0].n, "7");
+  answers.state = "";
   await made.lookAtMachines();
-  assert.equal(made.known.get("M1").state, "stop", "what was known last stays, with its age");
-});
-
-test("no file of /line/status stops the page", async () => {
-  const odd = ["", "null", "7", "[]", "{\"Machines\":{\"M1\":null}}", "{\"a\":NaN}", "{\"a\"",
-    "{\"Undecided\":[null]}", "{\"Machines\":{\"M1\":{\"LastRefused\":{\"Id\":\"1\"}}}}"];
-  const names = odd.map((text, at) => [`${at}.json`, text]);
-  const made = await model(Object.fromEntries([...names, ["a b%.json", "{}"]]));
-  await made.lookAtMachines();
-  assert.ok(made.machines.unread.includes("5.json"));
-  assert.ok(!made.machines.unread.includes("a b%.json"));
+  assert.equal(made.machines.get("M1").state, "stop", "what was known last stays, with its age");
 });

@@ -29,7 +29,7 @@ test("a page whose address has a log-in reads its set-up, and all else", async (
   await desk.maySend();
   await desk.post("{}", "u");
   await desk.putRecord({ id: "0", text: "{}" });
-  await desk.lineStatus();
+  await desk.decide({ Of: 1 });
   await session.logIn("m1", "secret").catch(() => {});
   assert.ok(asked.length >= 6 && asked.every((it) => it.startsWith("https://desk/")), asked);
 });
