@@ -9,6 +9,7 @@ import pytest
 from lab.line import Line, table
 from lab.tools import run_tool
 from test_untraced_line import FIRST, LATER, Plant
+from tracedesk import records
 from tracedesk_ops import collecting, inboxes, untraced
 
 NOW = "2026-03-02T06:05:00Z"
@@ -39,30 +40,60 @@ def build(plant: Plant, *reels: "str | None", board: str = "B1") -> None:
     plant.send("--follow", "-", *plant.handed_on, given=given).expect(0)
 
 
+def put(plant: Plant) -> None:
+    """What a sender of 1.0.0 says of a board that was built with reel R-2."""
+    its = {"Board": "B1", "Designators": ["C1"], "DeskReel": "R-1", "Machine": "M1"}
+    id_, text = records.record("differs", "tracedesk-send m1", NOW, **its, MachineReel="R-2")
+    (plant.inbox / f"{id_}.json").write_bytes(text)
+
+
+def open_entry(plant: Plant) -> int:
+    """The number of the entry that stops the machine."""
+    causes = json.loads(plant.line.get("/line/state?machine=M1")[1])["Causes"]
+    (number,) = [it["Entry"] for it in causes if it["Cause"] == "Open"]
+    return int(number)
+
+
+def boards(plant: Plant, lot: str) -> list[tuple[str, ...]]:
+    """What a recall of a lot names as doubtful."""
+    names = ("board", "designator", "reel", "other_reels", "why")
+    rows = table(plant.line.recall("--show", "doubtful", lot=lot).out)
+    return [tuple(row[name] for name in names) for row in rows]
+
+
 def test_both_lots_name_the_board_unless_it_is_scrapped(plant: Plant) -> None:
     build(plant, "R-2")
-    for lot in ("L-R-1", "L-R-2"):
-        (row,) = table(plant.recall(lot, 5, "doubtful"))
-        assert (row["board"], row["designator"], row["reel"]) == ("B1", "C1", "R-1")
-        assert (row["other_reels"], row["other_lots"]) == ("R-2", "L-R-2")
-        assert row["why"].startswith("the machine names another reel (")
-    assert table(plant.recall("L-R-3", 0, "doubtful")) == []
-    plant.untraced("collect").expect()
-    told = json.loads((plant.status / "untraced.json").read_text())["Undecided"]
-    assert [(it["Board"], it["Refusal"], it["Place"]) for it in told] == [("B1", "Differs", "R-2")]
-    assert [(it["DeskReel"], it["Designators"]) for it in told] == [("R-1", ["C1"])]
-    (record,) = untraced.undecided(untraced.read(plant.line.archive).records)
+    its = ("B1", "C1", "R-1", "R-2", "the machine names another reel (entry 1 of running desk)")
+    assert [boards(plant, lot) for lot in ("L-R-1", "L-R-2")] == [[its]] * 2
+    assert boards(plant, "L-R-3") == [] and not list(plant.inbox.glob("*.json"))
     for became in ("the machine was wrong: its feeder table was old", "used as it is"):
-        plant.decide(record.id[:12], became)
-        assert untraced.undecided(untraced.read(plant.line.archive).records) == []
+        plant.line.note("decisions", Of=1, Became=became)
         for lot in ("L-R-1", "L-R-2"):
-            (row,) = table(plant.recall(lot, 5, "doubtful"))
-            assert row["board"] == "B1"
+            assert boards(plant, lot) == [its]
         (row,) = table(plant.recall("L-R-2", 5))
         assert (row["board"], row["became"]) == ("B1", became)
-    plant.decide(record.id[:12], "scrapped")
+    plant.line.note("decisions", Of=1, Became="scrapped")
     for lot in ("L-R-1", "L-R-2"):
         assert table(plant.recall(lot, 0, "doubtful")) == []
+
+
+def test_a_decision_behind_a_roll_over_is_about_the_entry_before_it(plant: Plant) -> None:
+    build(plant, "R-2")
+    plant.line.rollover().expect()
+    (file,) = plant.line.archives()
+    why = f"the machine names another reel (entry 1 of {file.file})"
+    assert boards(plant, "L-R-2") == [("B1", "C1", "R-1", "R-2", why)]
+    plant.line.note("decisions", Of=open_entry(plant), Became="used as it is")
+    assert boards(plant, "L-R-2") == [("B1", "C1", "R-1", "R-2", why)]
+    plant.line.note("decisions", Of=2, Became="scrapped")
+    assert boards(plant, "L-R-2") == []
+
+
+def test_a_moved_boundary_of_a_splice_is_doubtful(plant: Plant) -> None:
+    plant.on_slot(NOW, "MaterialsSpliced", Reel="R-2")
+    build(plant, "R-2")
+    its = ("B1", "C1", "R-1", "R-2", "the machine names another reel (entry 1 of running desk)")
+    assert [boards(plant, lot) for lot in ("L-R-1", "L-R-2")] == [[its]] * 2
 
 
 def test_a_reel_that_the_desk_does_not_know_is_said_so(plant: Plant) -> None:
@@ -74,13 +105,6 @@ def test_a_reel_that_the_desk_does_not_know_is_said_so(plant: Plant) -> None:
         assert len(table(plant.recall(lot, 5, "doubtful"))) == 1
     several = [*("lot", "L-R-4", "L-R-9"), *plant.line.recall_words(), "--show", "doubtful"]
     assert len(table(run_tool("recall", *several).expect(5).out)) == 1
-    (told,) = json.loads((plant.status / "m1.json").read_text())["Machines"]["M1"]["Differs"]
-    assert (told["Known"], told["Slot"], told["Desk"], told["Machine"]) == (
-        False,
-        "1",
-        "R-1",
-        "R-9",
-    )
 
 
 def test_reels_that_cannot_be_compared_put_the_board_in_doubt(plant: Plant) -> None:
@@ -88,16 +112,41 @@ def test_reels_that_cannot_be_compared_put_the_board_in_doubt(plant: Plant) -> N
     scrapped.
     """
     build(plant, "R-1", "R-2")
+    why = "the machine's reels can't be compared with the desk's (entry 1 of running desk)"
     for lot in ("L-R-1", "L-R-3"):
-        (row,) = table(plant.recall(lot, 5, "doubtful"))
-        assert (row["board"], row["reel"], row["other_reels"]) == ("B1", "R-1", "")
-        assert row["why"].startswith("the machine's reels can't be compared with the desk's (")
+        assert boards(plant, lot) == [("B1", "C1", "R-1", "", why)]
     plant.recall("L-R-4", 0, "doubtful")  # of another part
-    plant.untraced("collect").expect()
-    (record,) = untraced.undecided(untraced.read(plant.line.archive).records)
-    assert untraced.said(record)[6] == "Uncompared"
-    plant.decide(record.id[:12], "scrapped")
+    plant.line.note("decisions", Of=1, Became="scrapped")
     plant.recall("L-R-1", 0, "doubtful")
+
+
+def test_the_station_shows_the_board_until_somebody_decides(plant: Plant) -> None:
+    build(plant, "R-2")
+    (told,) = collecting.contradicted(plant.line.port)
+    names = ("Board", "Designators", "DeskReel", "Id", "Machine", "Place", "Refusal", "Slot")
+    its = ["B1", ["C1"], "R-1", "entry 1", "M1", "R-2", "Differs", "1"]
+    assert [told[name] for name in names] == its
+    collecting.write_status(plant.status, [], [told])
+    assert json.loads((plant.status / "untraced.json").read_text())["Undecided"] == [told]
+    plant.line.note("decisions", Of=1, Became="used as it is")
+    assert collecting.contradicted(plant.line.port) == []
+    plant.line.end()
+    assert collecting.contradicted(plant.line.port) == []
+
+
+def test_a_record_of_a_sender_of_1_0_0_counts_as_before(plant: Plant) -> None:
+    """Until somebody decides about it."""
+    build(plant, None)
+    put(plant)
+    plant.untraced("collect").expect()
+    told = json.loads((plant.status / "untraced.json").read_text())["Undecided"]
+    assert [(it["Board"], it["Refusal"], it["Place"]) for it in told] == [("B1", "Differs", "R-2")]
+    assert [(it["DeskReel"], it["Designators"]) for it in told] == [("R-1", ["C1"])]
+    (record,) = untraced.undecided(untraced.read(plant.line.archive).records)
+    why = f"the machine names another reel ({record.id[:8]})"
+    assert boards(plant, "L-R-2") == [("B1", "C1", "R-1", "R-2", why)]
+    plant.decide(record.id[:12], "scrapped")
+    assert boards(plant, "L-R-2") == []
 
 
 @pytest.mark.parametrize("reels", [("R-1",), (None,)])
@@ -111,7 +160,7 @@ def test_where_they_agree_or_none_is_named_nothing_is_in_doubt(
 
 def test_a_decision_in_the_inbox_is_none(plant: Plant) -> None:
     """Whoever may send may put it there."""
-    build(plant, "R-2")
+    put(plant)
     plant.untraced("collect").expect()
     (record,) = untraced.undecided(untraced.read(plant.line.archive).records)
     told = {

@@ -12,6 +12,7 @@ from lab.world import World
 from tracedesk_ops import catalogue, chains
 from tracedesk_ops.firstlook import Piece, Question
 from tracedesk_ops.recalls.recall import Recall
+from tracedesk_ops.recalls.surveyed import Surveyed
 
 pytestmark = [pytest.mark.xdist_group("recall")]
 
@@ -81,7 +82,7 @@ def test_archives_stay_as_they_are(world: World, folder: pathlib.Path) -> None:
 
 def test_a_desk_that_is_a_copy_of_another_lines_is_named(folder: pathlib.Path) -> None:
     piece = Piece("B1", "C1", "P", "L", "K", "M", "1", "no", 5, "L1", catalogue.RUNNING)
-    its = Recall(Question("lot", "L"), [], chains.Asker("none", []), folder)
+    its = Recall(Question("lot", "L"), Surveyed([], folder), chains.Asker("none", []))
     its.pieces = [piece, piece._replace(line="L2")]
     its.doubt()
     assert its.status() == 3 and "desks of L1 and L2 have the same pieces" in its.doubts[0]

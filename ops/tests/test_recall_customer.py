@@ -13,6 +13,7 @@ from tracedesk_ops.firstlook import Question
 from tracedesk_ops.recalls import customers, signing
 from tracedesk_ops.recalls.evidence import sums_of
 from tracedesk_ops.recalls.recall import Recall
+from tracedesk_ops.recalls.surveyed import Surveyed
 
 pytestmark = pytest.mark.xdist_group("recall_customer")
 
@@ -38,7 +39,7 @@ def recall(line: Line, folder: pathlib.Path, shipped: str, *more: Word) -> Ended
 def test_a_customer_gets_their_serials_alone(line: Line, folder: pathlib.Path) -> None:
     key = key_in(folder, "plant")
     done = recall(line, folder, SHIPPED, "--key", key)
-    done.expect(0, "Of your 2 serials 1 hold a piece, 1 hold none.")
+    done.expect(0, "Complete: of your 2 serials 1 hold a piece, 1 hold none.")
     rows = table((folder / "to/serials.csv").read_text())
     assert [(row["board"], row["holds"]) for row in rows] == [("SN-1", "yes"), ("SN-3", "no")]
     assert [row["board"] for row in table((folder / "to/pieces.csv").read_text())] == ["SN-1"]
@@ -47,7 +48,7 @@ def test_a_customer_gets_their_serials_alone(line: Line, folder: pathlib.Path) -
         assert "SN-2" not in text and "SN-4" not in text and "Customer B" not in text, file
         assert str(line.folder) not in text and "127.0.0.1" not in text, file
     words: list[Word] = [folder / "to", "--signers", signers_of(key), "--archives", line.archive]
-    run_tool("verify", *words).expect(0, "the answer comes again", "complete. Of your 2")
+    run_tool("verify", *words).expect(0, "the answer comes again", "Complete: of your 2")
 
 
 def test_a_serial_that_holds_a_piece_is_not_said_to_hold_none(
@@ -62,7 +63,7 @@ def test_a_serial_that_holds_a_piece_is_not_said_to_hold_none(
     (to / signing.SUMS).write_bytes(sums_of({name: (to / name).read_bytes() for name in names}))
     (to / signing.SIGNATURE).unlink()
     signing.sign(to, key)
-    words: list[Word] = [to, "--signers", signers_of(key)]
+    words: list[Word] = [to, "--signers", signers_of(key), "--archives", line.archive]
     run_tool("verify", *words).expect(1, "its boards are not those of its pieces")
 
 
@@ -77,7 +78,7 @@ def test_a_certificate_for_a_customer_names_nothing_of_others() -> None:
         "notes": [f"{says}: as by a roll-over"],
         "lines": [its],
     }
-    customers.hide(told, [customers.HEADER])
+    customers.hide(told)
     assert not [word for word in ("SN-2", "anna", "srv") if word in str(told)]
     assert told["not_asked"] == told["no_chain"] == told["twice"] != []
 
@@ -98,7 +99,7 @@ def test_a_serial_that_nobody_knows_is_named(line: Line, folder: pathlib.Path) -
 
 def test_no_serial_holds_none_if_not_all_were_asked(line: Line, folder: pathlib.Path) -> None:
     done = recall(line, folder, SHIPPED, "--line", "L2", folder)
-    done.expect(3, "Of your 2 serials 1 hold a piece, 0 hold none, 1 are not known.")
+    done.expect(3, "NOT COMPLETE: of your 2 serials 1 hold a piece, 0 hold none, 1 are not")
 
 
 UNDECIDED = ["L1", "", "M", "SN-2", "", "", "", "", "id", "", "", "", ""]
@@ -116,7 +117,7 @@ def test_a_serial_holds_none_in_a_complete_answer_alone(
     folder: pathlib.Path, monkeypatch: pytest.MonkeyPatch, name: str
 ) -> None:
     untraced, board, holds = SAID[name]
-    recall_ = Recall(Question("lot", "L"), [], chains.Asker("none", []), folder)
+    recall_ = Recall(Question("lot", "L"), Surveyed([], folder), chains.Asker("none", []))
     recall_.untraced, recall_.doubtful = untraced, [["L1", board, *[""] * 10]]
     monkeypatch.setattr(customers, "unknown", lambda *_: set())
     tables = customers.narrow(recall_, {"SN-1": [["A", ""]], "SN-2": [["B", ""]]}, "A")

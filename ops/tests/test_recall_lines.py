@@ -6,10 +6,12 @@ from typing import Iterator
 import pytest
 from lab import messages
 from lab.desk import rows_of_archive
-from lab.recalls import Rows, files_of, last_minute, recall, recalled
-from lab.tools import Word
+from lab.line import table
+from lab.recalls import Rows, files_of, key_in, last_minute, recall, recalled, signers_of
+from lab.tools import Word, run_tool
 from lab.world import RUNNING, ArchivedLine
 from tracedesk_dev import shift
+from tracedesk_ops import catalogue
 
 pytestmark = [pytest.mark.xdist_group("recall_lines")]
 
@@ -90,6 +92,24 @@ def test_without_the_desks_file_the_newest_archive_says_what_is_left(
     left = "SELECT reel FROM reel WHERE lot = ? AND remaining > 0"
     wanted = {reel for (reel,) in rows_of_archive(young.line.archived[0], left, young.lot)}
     assert {row["reel"] for row in recalled(*words, status=3)} == wanted
+
+
+def test_a_mirror_is_complete_until_its_newest_file_ends(
+    young: Young, folder: pathlib.Path
+) -> None:
+    young.roll_over()
+    away, file = folder / "away", young.line.archived[0]
+    shutil.copytree(young.line.archive, away / "sealed")
+    until, key = last_minute(file), key_in(folder, "plant")
+    words: list[Word] = ["lot", young.lot, "--line", "L1", away, "--show", "pieces", "--as-of"]
+    signed: list[Word] = ["--key", key, "--evidence", folder / "to"]
+    done = recall(*words, until, *signed).expect(0, "has no desk", f"after {file.name}, {until}")
+    assert files_of(table(done.out)) == {file.name}
+    said = run_tool("verify", folder / "to", "--signers", signers_of(key)).expect().err
+    assert f"Complete as of {until}: " in said
+    later = catalogue.spelled(catalogue.minute_of(until) + 1)
+    recall(*words, later).expect(3, "pull a newer mirror")
+    recall(*words, "yesterday").expect(2)
 
 
 def test_a_folder_that_may_not_be_mounted_is_named(young: Young) -> None:

@@ -61,7 +61,8 @@ class RecallSite(Site):
     def __enter__(self) -> "RecallSite":
         super().__enter__()
         self.queue = Queue(self.room / "queue")
-        self.queue.folder.mkdir()
+        for name in ("asked", "answers"):
+            (self.queue.folder / name).mkdir(parents=True)
         words = ["serve", "--socket", self.room / "recall", "--queue", self.queue.folder]
         self.page = subprocess.Popen([str(word) for word in (tool("recall-page"), *words)])
         station_site.wait_for("the page answers", lambda: self.ask("GET", RECALLER)[0] == 200)
@@ -127,8 +128,7 @@ def test_the_proxy_names_the_reader(site: RecallSite) -> None:
     name = urllib.parse.urlsplit(headers["Location"]).path.split("/")[-2]
     job = site.queue.job(name)
     assert job and job.asked.reader == RECALLER
-    with job.opened() as place:
-        place.end(status=1)
+    job.end(1, "NOT FOUND", "")
 
 
 def test_each_answer_may_load_nothing_from_elsewhere(site: RecallSite) -> None:
@@ -229,7 +229,7 @@ def test_a_recaller_finds_the_boards_in_a_browser(reader: Reader) -> None:
     reader.expect_well_shown()
     reader.goes_back()
     rows = [row.text for row in reader.page.find_elements("css selector", "tbody tr")[:2]]
-    assert rows[0].endswith("is next") and rows[1].endswith("complete"), rows
+    assert rows[0].endswith("Is next.") and "Complete: 2 boards" in rows[1], rows
     reader.worker.work(is_once=True)
     reader.page.find_element("link text", "lot 240131").click()
     assert reader.waits().startswith("Complete: 2 boards hold a piece of lot 240131, and no other")
@@ -246,7 +246,7 @@ def test_a_desk_that_is_away_is_named_in_a_browser(reader: Reader, line: Line) -
     finally:
         line.serve()
     assert reader.waits().startswith("NOT COMPLETE: 2 boards hold a piece of lot 240131")
-    assert "L1: the running desk: Connection refused" in reader.text
+    assert "L1: no desk of this machine has" in reader.text
     assert "Mend what is named, then ask again." in reader.text and "SN-1" in reader.text
     colour = reader.page.find_element("id", "answer").value_of_css_property("color")
     assert colour == "rgba(183, 28, 28, 1)"

@@ -1,9 +1,10 @@
-"""Who works off the queue of recalls: each of them ends, and nothing in the queue is more than
+"""Who works off the queue of the page: each question ends, and nothing in the queue is more than
 data.
 """
 from __future__ import annotations
 
 import ast
+import dataclasses
 import json
 import os
 import pathlib
@@ -16,7 +17,7 @@ import pytest
 from lab.waits import wait_for
 from tracedesk_dev import processes
 from tracedesk_ops.recallpage import jobs, pages, papers, view
-from tracedesk_ops.recallpage.jobs import JobQuestion, Queue
+from tracedesk_ops.recallpage.jobs import Asked, Queue
 from tracedesk_ops.recallpage.worker import Worker
 from tracedesk_ops.recalls import words
 
@@ -25,12 +26,13 @@ pytestmark = [pytest.mark.needs("python:flask"), pytest.mark.xdist_group("recall
 
 @pytest.fixture
 def queue(folder: pathlib.Path) -> Queue:
-    (folder / "queue").mkdir()
+    for name in ("asked", "answers"):
+        (folder / "queue" / name).mkdir(parents=True)
     return Queue(folder / "queue")
 
 
-def asked(*names: str, kind: str = "lot", part: str = "") -> JobQuestion:
-    return JobQuestion(kind, names, part, "anna", "2026-03-02 06:00 UTC")
+def asked(names: str, kind: str = "lot") -> Asked:
+    return Asked(kind, names, "anna", "2026-03-02 06:00 UTC")
 
 
 def worker(queue: Queue, text: str, **more: Any) -> Worker:
@@ -86,21 +88,19 @@ def test_a_recall_that_cannot_be_ended_holds_none_up(
     queue: Queue, monkeypatch: pytest.MonkeyPatch
 ) -> None:
     first, _ = queue.add(asked("L-1")), queue.add(asked("L-2"))
-    end = jobs.Place.end
+    end = jobs.Job.end
 
-    def full(place: jobs.Place, **how: Any) -> None:
-        if os.fstat(place.number).st_ino == first.folder.stat().st_ino:
+    def full(job: jobs.Job, *how: Any) -> None:
+        if job == first:
             raise OSError("No space left on device")
-        end(place, **how)
+        end(job, *how)
 
-    monkeypatch.setattr(jobs.Place, "end", full)
+    monkeypatch.setattr(jobs.Job, "end", full)
     worker(queue, "sys.exit(1)").work(is_once=True)
     assert ended(queue) == [-1, 1]
 
 
-def test_a_paper_has_limits_of_its_own(
-    folder: pathlib.Path, monkeypatch: pytest.MonkeyPatch
-) -> None:
+def test_a_paper_has_limits_of_its_own(monkeypatch: pytest.MonkeyPatch) -> None:
     monkeypatch.setattr(papers, "MOST_CPU", 1)
     monkeypatch.setattr(papers, "MOST_MEMORY", 1 << 30)
 
@@ -112,35 +112,41 @@ def test_a_paper_has_limits_of_its_own(
         bytearray(1 << 32)
 
     for maker in (endless, greedy):
-        assert papers.made_apart(maker, "json", folder, folder / "paper") not in (0, papers.MISSING)
+        assert papers.apart(maker) != 0
 
 
 def test_long_cells_are_set_in_moderate_time(folder: pathlib.Path) -> None:
     """As those of a refused install of some hundred places. The processor's time is looked at."""
-    weasyprint = pytest.importorskip("weasyprint")
+    pytest.importorskip("weasyprint")
     long = " ".join(f"C{number}" for number in range(1_500))
-    rows = [[f"B{number}", long, long] for number in range(20)]
+    rows = [[f"B{number}", long, "x" * 1_500] for number in range(20)]
     tables = [view.Table("Untraced work", ["Board", "Work", "Reels"], rows)]
-    answer = view.ShownAnswer("lot L", False, "NOT COMPLETE", [long], [long], tables, [], [])
-    text = pages.paper(view.brief(answer, papers.MOST_LETTERS), papers.MOST_ON_PAPER)
+    answer = view.ShownAnswer("lot L", False, "NOT COMPLETE", [long], [long], tables)
     before = time.process_time()
-    weasyprint.HTML(string=text).write_pdf(str(folder / "a.pdf"))
+    papers.write_pdf(folder, answer, str(folder / "a.pdf"))
     assert time.process_time() - before < papers.MOST_CPU / 4
 
 
-HOSTILE: dict[str, tuple[Any, ...]] = {  # of a question: its kind, its names and its part
-    "a program": ("lot", ["L", "--program", "/bin/true"], ""),
-    "a key": ("lot", ["--key=/etc/tracedesk/recall-key"], ""),
-    "evidence": ("lot", ["--evidence", "/var/lib/tracedesk/x"], ""),
-    "a part": ("lot", ["L"], "--key=/tmp/key"),
-    "a kind": ("--evidence=/tmp/x", ["L"], ""),
-    "no list": ("lot", "L", ""),
-    "no text": ("lot", [7], ""),
-    "none": ("lot", [], ""),
-    "no attribute": ("where", ["x"], ""),
-    "a control": ("lot", ["L\n--program"], ""),
+def test_a_cell_says_what_it_is_without_markup() -> None:
+    assert pages.cell("<b>") == "&lt;b&gt;"
+    assert pages.cell("x" * 20) == f"{'x' * 16}<wbr>xxxx"
+    assert pages.cell("x " * 200).endswith(".. (400 letters)")
+
+
+HOSTILE: dict[str, dict[str, Any]] = {  # what a question has in place of its own fields
+    "a program": {"names": "L, --program, /bin/true"},
+    "a key": {"names": "--key=/etc/tracedesk/recall-key"},
+    "evidence": {"names": "--evidence, /var/lib/tracedesk/x"},
+    "a part": {"part": "--key=/tmp/key"},
+    "a kind": {"kind": "--evidence=/tmp/x"},
+    "a list": {"names": ["L"]},
+    "a number": {"within": 7},
+    "none": {"names": ""},
+    "no attribute": {"kind": "where", "names": "x"},
+    "a control": {"names": "L\n--program"},
+    "a field more": {"program": "/bin/true"},
 }
-SHOWS = "pathlib.Path(EVIDENCE.parent.parent, 'argv').write_text(repr(sys.argv[1:])); sys.exit(1)"
+SHOWS = "pathlib.Path(EVIDENCE.parents[3], 'argv').write_text(repr(sys.argv[1:])); sys.exit(1)"
 
 
 @pytest.mark.parametrize("name", HOSTILE)
@@ -148,54 +154,40 @@ def test_a_name_in_the_queue_is_no_option(
     queue: Queue, monkeypatch: pytest.MonkeyPatch, name: str
 ) -> None:
     """Whoever writes into the queue may only ask."""
-    kind, names, part = HOSTILE[name]
-    job = queue.add(asked("L"))
-    told = {**json.loads((job.folder / jobs.ASKED).read_text()), "kind": kind, "names": names}
-    (job.folder / jobs.ASKED).write_text(json.dumps({**told, "part": part}))
-    monkeypatch.setattr("tempfile.tempdir", str(queue.folder.parent))
+    job, told = queue.add(asked("L")), {**dataclasses.asdict(asked("L")), **HOSTILE[name]}
+    (queue.folder / f"asked/{job.name}.json").write_text(json.dumps(told))
     worker(queue, SHOWS).work(is_once=True)
     shown = queue.folder.parent / "argv"
     assert ended(queue) == [1 if shown.exists() else 2]
     if not shown.exists():
         return
     argv = ast.literal_eval(shown.read_text())
-    (evidence,) = [it for it in argv if it.startswith("--evidence=")]
-    argv[argv.index(evidence)] = f"--evidence={queue.folder}/evidence"
     monkeypatch.delenv("PROGRAM", raising=False)
     with mock.patch.object(sys, "argv", ["tracedesk-recall", *argv]):
         asks = words.parse("")
-    assert (asks.kind, asks.names, asks.part) == (kind, names, part or None)
-    assert (asks.program, asks.key) == ("tracedesk", None)
+    its = [name.strip() for name in told["names"].split(",")]
+    assert (asks.kind, asks.names, asks.part) == (told["kind"], its, told["part"] or None)
+    assert (asks.program, asks.key, asks.evidence) == ("tracedesk", None, job.folder / "evidence")
 
 
-LINKS = """
-for folder in pathlib.Path({queue!r}).glob("2*"):
-    for name in ("evidence", "boards.csv", "recall.pdf", "evidence.zip"):
-        if not folder.is_symlink() and not (folder / name).exists():
-            (folder / name).symlink_to({secret!r})
-EVIDENCE.mkdir()
-(EVIDENCE / "boards.csv").write_text("board")
-"""
+def test_deep_json_in_the_queue_ends_no_page_and_no_worker(queue: Queue) -> None:
+    job = queue.add(asked("L"))
+    (queue.folder / f"asked/{job.name}.json").write_text("[" * 60_000)
+    assert not [*queue.questions(queue.all())] and queue.job(job.name) is None
+    worker(queue, "sys.exit(1)").work(is_once=True)
+    assert ended(queue) == [2]
 
 
 def test_no_link_in_the_queue_is_followed(queue: Queue) -> None:
-    """Nor one that is put there while a recall runs: nothing elsewhere is read, written or made
-    readable, and each recall ends.
-    """
+    """Nothing elsewhere is read, and each recall ends."""
     secret = queue.folder.parent / "secret"
-    secret.mkdir(mode=0o700)
-    (secret / "key").write_text("board,customer,date\nSECRET,x,2026\n")
-    (secret / "key").chmod(0o600)
-    for number, name in enumerate((jobs.ASKED, jobs.SHIPPED, jobs.SAID, "evidence")):
-        job = queue.add(asked(f"L-{number}"))
-        (job.folder / name).unlink(missing_ok=True)
-        (job.folder / name).symlink_to(secret if name == "evidence" else secret / "key")
-    (queue.folder / "20200101T000000.000000Z-00000000").symlink_to(secret)
-    worker(queue, LINKS.format(queue=str(queue.folder), secret=str(secret))).work(is_once=True)
-    assert -1 not in ended(queue)
-    assert [it.name for it in secret.iterdir()] == ["key"]
-    assert (secret / "key").read_text().startswith("board,customer")
-    modes = [path.stat().st_mode & 0o777 for path in (secret, secret / "key")]
-    assert modes == [0o700, 0o600]
-    for path in queue.folder.rglob("*"):
-        assert path.is_symlink() or not path.is_file() or "SECRET" not in path.read_text("latin-1")
+    secret.write_text("board,customer,date\nSECRET,x,2026\n")
+    for number, end in enumerate(("json", "csv")):
+        job = queue.add(asked(f"L-{number}"), b"board,customer,date\n")
+        (queue.folder / f"asked/{job.name}.{end}").unlink()
+        (queue.folder / f"asked/{job.name}.{end}").symlink_to(secret)
+    os.mkfifo(queue.folder / "asked/20200101T000000.000000Z-00000000.json")
+    worker(queue, "sys.exit(1)").work(is_once=True)
+    assert ended(queue) == [2, 2, 9]
+    for path in queue.folder.glob("answers/*/*"):
+        assert "SECRET" not in path.read_text("latin-1")

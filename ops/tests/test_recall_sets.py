@@ -4,6 +4,7 @@ from __future__ import annotations
 import json
 import os
 import pathlib
+import shutil
 from typing import Iterator
 
 import pytest
@@ -11,8 +12,9 @@ from lab import files, messages, small
 from lab.line import Line, NewLine, table
 from lab.recalls import key_in, signers_of
 from lab.tools import Ended, Word, run_tool
-from tracedesk_ops import attributes, firstlook, plant
+from tracedesk_ops import attributes, entries, firstlook, plant
 from tracedesk_ops.recalls import sets
+from tracedesk_ops.recalls.surveyed import Surveyed
 
 pytestmark = pytest.mark.xdist_group("recall_sets")
 
@@ -23,6 +25,7 @@ K-3,CAP,2609,Maker Two,red
 K-4,CAP,2614,Maker Two,red
 """
 
+NO_FILES = Surveyed([], pathlib.Path())
 RECEIVED = "INSERT INTO reel VALUES ('K-1', 'CAP', ?, '1', 0, 5, 0, 0, 5, 0, -1, 0)"
 
 
@@ -109,6 +112,13 @@ def test_a_reel_whose_attributes_nobody_gave_is_named(line: Line, book: pathlib.
     assert [*boards(done.expect(3, "1 reels aren't known", "K-2"))] == ["SN-1", "SN-4"]
 
 
+def test_a_mirror_without_such_a_reel_is_not_complete(line: Line, folder: pathlib.Path) -> None:
+    """One may have been received since."""
+    shutil.copytree(line.archive, folder / "L1/sealed")
+    done = run_tool("recall", "where", "lot=none", "--line", "L1", folder / "L1")
+    done.expect(3, "NOT ASKED: L1: ", "has no desk", "no reel is one of")
+
+
 def test_without_a_book_no_attribute_is_known(line: Line) -> None:
     recall(line, "where", "date_code=2614", "part=CAP").expect(3, "K-1, K-3, K-4")
 
@@ -121,7 +131,7 @@ def test_a_file_whose_reels_are_not_known_is_named(
     known.faults.append("L1: the reels of desk aren't known")
     monkeypatch.setattr(sets, "Known", lambda _: known)
     kind, *names = words.split()
-    assert known.faults[0] in sets.question_of(kind, names, "", []).faults
+    assert known.faults[0] in sets.question_of(kind, names, "", NO_FILES).faults
 
 
 @pytest.mark.parametrize(
@@ -137,7 +147,7 @@ def test_a_name_of_two_receipts_is_named(
             database.execute(RECEIVED, [lot])
             known.read(database)
     monkeypatch.setattr(sets, "Known", lambda _: known)
-    asked = sets.question_of(kind, names, "", [])
+    asked = sets.question_of(kind, names, "", NO_FILES)
     assert asked.question.reels == ("K-1",) and not [it for it in asked.notes if "L-77" in it]
     assert asked.faults[0].startswith("the name K-1 is of CAP, lot L-77 and of CAP, lot L-99")
 
@@ -145,7 +155,7 @@ def test_a_name_of_two_receipts_is_named(
 def test_each_lines_book_tells_of_its_own_reel_of_a_name(folder: pathlib.Path) -> None:
     """Two lines have a reel K-1 each, of two lots."""
     lines, known = [firstlook.Line(name, folder / name) for name in ("L1", "L2")], sets.Known([])
-    known.cards["K-1"] = {attributes.Reel("K-1", "CAP", lot): None for lot in ("A", "B")}
+    known.cards["K-1"] = {attributes.Reel("K-1", "CAP", lot): [] for lot in ("A", "B")}
     for line, code in zip(lines, ("2614", "2609")):
         for name in ("sealed", "untraced"):
             (line.folder / name).mkdir(parents=True)
@@ -157,6 +167,69 @@ def test_each_lines_book_tells_of_its_own_reel_of_a_name(folder: pathlib.Path) -
         assert ["is of CAP, lot A and of CAP, lot B" in it for it in meant.faults] == [True] * len(
             reels
         )
+
+
+BOOKED = "INSERT INTO book VALUES (?, 0, 'attribute', 'S', 'u', '', '', '', 'K-1', ?, 0, ?)"
+
+
+def received(file: pathlib.Path, lot: str, **more: str) -> pathlib.Path:
+    """A file of a line that received reel K-1 of this lot, with these attributes."""
+    with files.opened(files.desk(file)) as database:
+        database.execute(RECEIVED, [lot])
+        database.execute(entries.CREATE)
+        for number, (word, told) in enumerate(more.items(), 1):
+            database.execute(BOOKED, [number, word, told])
+    return file
+
+
+def reels_where(folder: pathlib.Path, *terms: str) -> tuple[tuple[str, ...], list[str]]:
+    """The reels that a recall with these terms asks for, by all files, and what is wrong."""
+    known, line = sets.Known([]), firstlook.Line("L1", folder / "L1")
+    for file in sorted(folder.glob("desk*")):
+        with files.opened(file) as database:
+            known.read(database)
+    meant = sets.where(sets.terms_of(terms), known, [line])
+    return meant.question.reels, meant.faults
+
+
+def test_a_receipt_says_the_attributes_of_its_reel(folder: pathlib.Path) -> None:
+    """A desk that a roll-over began doesn't say them once more."""
+    more = {"DateCode": "2614", "Supplier": "Maker One ", "Order": "\\x5c37"}
+    received(folder / "desk1", "L-77", **more, MakerPart="GRM155")
+    received(folder / "desk2", "L-77")
+    all_of_it = ("date_code=2614", "supplier=Maker One", "order=\\7", "maker_part=GRM155")
+    assert reels_where(folder, *all_of_it, "lot=L-77") == (("K-1",), [])
+    for other in ("date_code=2609", "supplier=Maker Two"):
+        assert reels_where(folder, other) == ((), [])
+
+
+def test_what_somebody_gave_counts_before_the_receipt(folder: pathlib.Path) -> None:
+    received(folder / "desk1", "L-77", DateCode="2614", Order="PO-7")
+    for name in ("sealed", "untraced"):
+        (folder / "L1" / name).mkdir(parents=True)
+    its = attributes.Reel("K-1", date_code="2615")
+    attributes.add(folder / "L1/sealed", [its], "2026-03-02T06:00:00Z", "erp")
+    assert reels_where(folder, "date_code=2614") == ((), [])
+    assert reels_where(folder, "date_code=2615", "order=PO-7") == (("K-1",), [])
+
+
+def test_two_receipts_of_a_name_have_their_own_attributes(folder: pathlib.Path) -> None:
+    """Of two lots, or of one on two lines."""
+    received(folder / "desk1", "L-77", DateCode="2614")
+    received(folder / "desk2", "L-99")
+    received(folder / "desk3", "L-77", DateCode="2609")
+    for code in ("2614", "2609"):
+        reels, faults = reels_where(folder, f"date_code={code}", "lot=L-77")
+        assert reels == ("K-1",) and "the name K-1 is of" in faults[0]
+    reels, faults = reels_where(folder, "date_code=2614", "lot=L-99")
+    assert not reels and "the attributes of 1 reels aren't known" in faults[0]
+
+
+def test_a_receipt_of_a_running_line_says_them(line: Line) -> None:
+    its = {"PartNumber": "CAP", "Lot": "L-8", "Level": "1", "Quantity": 9, "DateCode": "2650"}
+    line.accept(small.say("ReelReceived", "received-8", Reel="K-8", **its))
+    done = recall(line, "where", "date_code=2650", "lot=L-8", "--show", "reels")
+    assert [row["reel"] for row in table(done.out)] == ["K-8"]
 
 
 def test_a_later_row_takes_the_place_of_the_one_before(line: Line, book: pathlib.Path) -> None:

@@ -18,7 +18,7 @@ SHIPPED = """board,customer,date,note
 L1-000001,Customer A,2026-03-05,
 L1-000001,Customer B,2026-04-01,again
 """
-EVIDENCE = """SHA256SUMS asked.csv boards.csv
+EVIDENCE = """SHA256SUMS boards.csv
     certificate.json doubtful.csv pieces.csv reels.csv shipped.csv untraced.csv""".split()
 FAILS = "from tracedesk_ops import doubts; doubts.look = lambda *_: 1 / 0"
 
@@ -131,7 +131,7 @@ def test_a_name_that_is_too_long_is_refused(world: World, folder: pathlib.Path) 
 @pytest.mark.parametrize("kind", ["lot", "reel", "board"])
 def test_a_name_that_nobody_knows(world: World, kind: str) -> None:
     done = recall(kind, "nowhere & never", *world.first.recall_words())
-    assert not table(done.expect(1, "nobody knows").out)
+    assert not table(done.expect(1, "NOT FOUND: none of these lines knows").out)
 
 
 # files that are no tables of shipped boards

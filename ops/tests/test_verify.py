@@ -96,10 +96,6 @@ def without_a_row(folder: pathlib.Path) -> None:
     for file in folder.iterdir():
         lines = file.read_text().splitlines(keepends=True)
         file.write_text("".join(line for line in lines if board not in line))
-    told = told_in(folder)
-    for name in ("boards", "pieces"):
-        told["answer"][name] = len(table((folder / f"{name}.csv").read_text()))
-    (folder / "certificate.json").write_text(json.dumps(told))
 
 
 # --- What is genuine
@@ -108,7 +104,7 @@ def without_a_row(folder: pathlib.Path) -> None:
 def test_what_the_plant_signed_is_verified(plant: Plant) -> None:
     done = plant.verify(plant.evidence).expect(0, "signed by plant", "verified")
     assert (
-        f"lot {plant.lot}, asked at " in done.err and "of the lines L1, L2: complete." in done.err
+        f"lot {plant.lot}, asked at " in done.err and "of the lines L1, L2. Complete: " in done.err
     )
 
 
@@ -257,22 +253,21 @@ def test_a_row_less_that_the_plant_signs_is_refused_by_its_archives(plant: Plant
     done.expect(1, "REFUSED", "tracedesk-chain answers otherwise")
 
 
-# how the rows of the table of boards are changed, and what is said
-CHANGED_BOARDS: dict[str, tuple[Callable[[list[str]], list[str]], str]] = {
-    "a row less": (lambda rows: rows[:-1], "boards.csv has not the rows that certificate.json"),
-    "another board": (lambda rows: [*rows[:-1], f"X{rows[-1]}"], "its boards are not those of its"),
+CHANGED_BOARDS: dict[str, Callable[[list[str]], list[str]]] = {  # the rows of that table
+    "a row less": lambda rows: rows[:-1],
+    "another board": lambda rows: [*rows[:-1], f"X{rows[-1]}"],
 }
 
 
 @pytest.mark.parametrize("name", CHANGED_BOARDS)
 def test_boards_that_are_not_those_of_the_pieces_are_refused(plant: Plant, name: str) -> None:
     """Also if the plant's own key signs them."""
-    change, said = CHANGED_BOARDS[name]
+    change = CHANGED_BOARDS[name]
     folder = plant.copy(name)
     rows = (folder / "boards.csv").read_text().splitlines(keepends=True)
     (folder / "boards.csv").write_text("".join(change(rows)))
     plant.sign_anew(folder, plant.key)
-    plant.verify(folder).expect(1, f"REFUSED: {said}")
+    plant.verify(folder, *plant.archives).expect(1, "REFUSED: its boards are not those of its")
 
 
 def test_without_the_archives_at_hand_nothing_is_said_of_them(plant: Plant) -> None:

@@ -2,8 +2,8 @@
 
     reel,part,lot,date_code,supplier,maker_part,order,at,by,chain
 
-A row is never changed: a later one of the same reel takes the place of the one before it. It is a
-book: book.py.
+What a receipt has is in the line's book, and counts where nobody gave it here. A row is never
+changed: a later one of the same reel takes the place of the one before it. It is a book: book.py.
 """
 from __future__ import annotations
 
@@ -18,6 +18,14 @@ FILE_NAME, NOTE = "reels.csv", "reels.json"
 ASKED = ("reel", "part", "lot", "date_code", "supplier", "maker_part", "order")
 HEADER = (*ASKED, "at", "by", "chain")
 LONGEST = 200  # letters of a value
+RECEIVED = {  # the members of a receipt that have one
+    "DateCode": "date_code",
+    "Supplier": "supplier",
+    "MakerPart": "maker_part",
+    "Order": "order",
+}
+
+Given = dict[str, str]  # values by the names of attributes
 
 
 class Reel(NamedTuple):
@@ -97,19 +105,7 @@ def add(archive: pathlib.Path, new: Sequence[Reel], at: str, by: str) -> int:
     return len(wanted)
 
 
-def fill(archive: pathlib.Path, received: Iterable[tuple[Reel, str]], at: str) -> int:
-    """Appends what receipts say of reels and nobody gave, with who sent them; how many rows these
-    are. What somebody gave stays, also if a receipt says otherwise.
-    """
-    with files.held(archive):
-        found = BOOK.to_extend(archive)
-        known = newest(found.values)
-        wanted = []
-        for its, by in received:
-            given = known.get(its.reel, Reel(its.reel))._asdict()
-            more = {name: value for name, value in its._asdict().items() if not given[name]}
-            if any(more.values()):
-                known[its.reel] = Reel(**{**given, **more})
-                wanted.append(AttributeRow(known[its.reel], at, by))
-        BOOK.extend(archive, found, wanted)
-    return len(wanted)
+def filled(given: Reel, card: Reel, received: Given) -> Reel:
+    """What is known of a reel by its card, by what somebody gave, and else by its receipt."""
+    more = {name: value for name, value in received.items() if not getattr(given, name)}
+    return given._replace(part=card.part, lot=card.lot, **more)

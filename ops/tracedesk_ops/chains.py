@@ -9,13 +9,9 @@ so it gets copies, as the file's owner where root calls.
 Each desk names the file from which it was begun, by its checksum. After a roll-over with an option
 it doesn't carry that on as it was. Then the program is asked about the files before and behind this
 link, which is known by the checksum alone.
-
-Many files are read in parts, side by side: the last file of a part is the first of the next one,
-and both say the same of it.
 """
 from __future__ import annotations
 
-import concurrent.futures
 import contextlib
 import csv
 import dataclasses
@@ -28,7 +24,7 @@ import tempfile
 from collections.abc import Iterable, Iterator, Sequence
 from typing import IO, Any
 
-from tracedesk_ops import parts, plant, sealed
+from tracedesk_ops import plant, sealed
 from tracedesk_ops.files import Room
 
 # statuses of the program: no chain; the first file was begun from another
@@ -63,10 +59,6 @@ class Answer:
     rows: list[dict[str, Any]]
     ends: list[End]
     options: list[str]
-
-    def count(self, number: int) -> int:
-        """How many rows a file has."""
-        return sum(row["file"] == number for row in self.rows)
 
 
 NOTHING = Answer([], [], [])
@@ -110,40 +102,7 @@ def asked(
     digits; the last may have none. A NoAnswer if there is none, a Fault if a file changes
     meanwhile. With `is_middle` the first file may have been begun from another, which isn't named.
     """
-    sizes = [os.stat(file).st_size for file in files]
-    spans = parts.spans(sizes, parts.jobs(sizes))
-
-    def of(span: parts.Span) -> Answer:
-        first, end = span[0], span[1] + 1
-        middle = ["--from-middle"] * (is_middle or first > 0)
-        its = files[first:end], digits[first:end]
-        return in_turn(chain, words, middle, *its)
-
-    with concurrent.futures.ThreadPoolExecutor(len(spans)) as threads:
-        return joined(spans, list(threads.map(of, spans)))
-
-
-def joined(spans: Sequence[parts.Span], answers: Sequence[Answer]) -> Answer:
-    """The answer over all files, by those over parts that share a file each."""
-    whole = answers[0]
-    for (first, _), its in zip(spans[1:], answers[1:]):
-        if whole.ends[-1] != its.ends[0] or whole.count(first) != its.count(0):
-            raise plant.Fault(
-                "two parts of the chain differ about the file that they share: ask again"
-            )
-        later = [{**row, "file": first + row["file"]} for row in its.rows if row["file"] > 0]
-        whole = Answer(whole.rows + later, whole.ends + its.ends[1:], whole.options + its.options)
-    return whole
-
-
-def in_turn(
-    chain: str,
-    words: list[str],
-    middle: list[str],
-    files: Files,
-    digits: Digits,
-) -> Answer:
-    """What the program answers about files that it reads one after the other."""
+    middle = ["--from-middle"] * is_middle
     runs: list[tuple[int, Answer]] = []
     options: list[str] = []
     first, last = 0, len(files)

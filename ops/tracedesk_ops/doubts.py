@@ -17,7 +17,8 @@ from collections.abc import Callable, Iterator
 from typing import NamedTuple
 
 from tracedesk import records
-from tracedesk_ops import around, books, catalogue, files, model, splices, untraced
+from tracedesk_ops import around, books, catalogue, contradictions, files, model, splices
+from tracedesk_ops import untraced
 from tracedesk_ops.firstlook import Question
 from tracedesk_ops.line import LineFolder
 from tracedesk_ops.sealed import FilesFault
@@ -48,25 +49,24 @@ class Doubts(NamedTuple):
 def look(
     folder: pathlib.Path, archives: list[catalogue.Archive], question: Question | None = None
 ) -> Doubts:
-    """Looks at what is around a line's files, which are in the order of their chain; at splices if
-    a question has a tolerance.
+    """Looks at what is around a line's files, which are in the order of their chain, and what their
+    books say of the reels of machines; at splices if a question has a tolerance.
     """
     archive = LineFolder(folder).sealed
     book = untraced.read(archive)
     decided = untraced.decisions(book.records)
     works = [it for it in untraced.refused(book.records) if untraced.is_work(it)]
     differing = untraced.differing(book.records)
-    tapes = Tapes()
+    tapes, contradicting = Tapes(), contradictions.Contradictions()
     pieces: list[DoubtfulPiece] = []
     faults: list[str] = []
     try:
-        # one file is open at a time: there may be many
         files: dict[str, Opener] = {
             it.file: functools.partial(catalogue.unchanged, folder, it) for it in archives
         }
-        for name, opened in files.items():
-            with opened() as database:
-                tapes.read(name, database)
+        read(files, tapes, contradicting)
+        differing += contradicting.records
+        decided |= contradicting.decisions
         tapes.judge(refusals_of(book.records, decided), map(work_of, works))
         pieces = [*placed(tapes, files), *told(tapes, works, differing, decided)]
         if question and question.within:
@@ -84,6 +84,16 @@ def look(
         [*book.faults, *faults, *waiting(archive.with_name(model.STATUS))],
         tapes,
     )
+
+
+def read(
+    files: dict[str, Opener], tapes: Tapes, contradicting: contradictions.Contradictions
+) -> None:
+    """Reads a line's files, of which one is open at a time: there may be many."""
+    for name, opened in files.items():
+        with opened() as database:
+            tapes.read(name, database)
+            contradicting.read(name, database)
 
 
 def placed(tapes: Tapes, files: dict[str, Opener]) -> Iterator[DoubtfulPiece]:
@@ -115,7 +125,7 @@ def contradicted(tapes: Tapes, record: untraced.Record) -> Iterator[DoubtfulPiec
     its, minute = record.told, minute_of(record.told["At"]) or 0
     is_known = its["MachineReel"] in tapes.cards
     why = DIFFERS if is_known else UNKNOWN if its["MachineReel"] else UNCOMPARED
-    why = f"{why} ({record.id[:8]})"
+    why = f"{why} ({record.id[:8] if record.text else record.id})"
     for name in map(str, its["Designators"]):
         where = its["Board"], name, its["Machine"], "", minute
         piece = tapes.piece(where, its["DeskReel"], [its["MachineReel"]], why)

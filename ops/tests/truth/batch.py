@@ -16,6 +16,7 @@ from tracedesk_ops import around, catalogue, chains, collecting, doubts, files, 
 from tracedesk_ops.line import LineFolder
 from tracedesk_ops.firstlook import Line, Question
 from tracedesk_ops.recalls.recall import Recall
+from tracedesk_ops.recalls.surveyed import Surveyed
 from truth.run import ROUNDS, SETTLE, SLOTS, Run
 from truth.world import BEGIN, Clock, Killed, Killer, Place
 
@@ -191,7 +192,7 @@ class Batch:
                 looked.machine = run.name
                 if number == 0:
                     self.ask_the_tool(run)
-                faults = [*run.faults, *wrong(run, self.answer_of)]
+                faults = wrong(run, self.answer_of)
                 if faults:
                     self.show(run, looked.told)
                 self.faults += [f"run {number}: {fault}" for fault in faults]
@@ -206,7 +207,7 @@ class Batch:
         question = Question("lot", lot, within=self.within)
         self.chain.lot = lot
         with files.Room() as room:
-            told = Recall(question, [self.line], self.chain, pathlib.Path(room))
+            told = Recall(question, Surveyed([self.line], pathlib.Path(room)), self.chain)
             told.ask()
         faults = told.faults + told.breaks + told.doubts
         assert not faults, f"a recall of {lot}: {faults}"

@@ -13,6 +13,7 @@ from truth.world import BEGIN, Clock, Place
 ROUNDS, SETTLE = 26, 3  # minutes of a run, and at its end those in which no reel is changed
 SLOTS = {"1": ("C1", "C2", "C3"), "2": ("D1", "D2")}
 DESIGNATORS = {name: slot for slot, names in SLOTS.items() for name in names}
+NAMED = "MachineReels"  # the member by which a machine names its reels
 MANY_LABELS = (10, 500, 500, 500)
 LIES = (-1, 0, 0, 0, 1)  # by how many pieces a label is wrong
 
@@ -27,26 +28,18 @@ class Run:
         self.truth: list[tuple[str, str, str]] = []  # board, designator, reel
         # The reels on each slot, the one in front first.
         self.slots: dict[str, list[str]] = {slot: [] for slot in SLOTS}
-        self.obeys = self.random.random() < 0.5
         self.names_reels = self.random.random() < 0.5  # the machine, in its installs
-        self.open: set[
-            str
-        ] = set()  # slots with a scan that was refused, and nothing accepted since
         self.swaps = 0
         self.completed: Optional[tuple[str, bytes]] = None  # the last board, and its start
-        scans = place.spools / f"{name}-scans"
-        scans.mkdir()
         self.inbox = places.Place(str(place.untraced), lambda _: desk)
         self.decisions = places.Place(str(place.decided), lambda _: desk)
         inbox = None if planted else self.inbox
-        machines: dict[str, list[str]] = {"machine": [name], "tablet": []}
         self.sources = {
-            its: Source(place.spools / f"{name}-{its}", f"{name}-{its}", desk, inbox, those, scans)
-            for its, those in machines.items()
+            its: Source(place.spools / f"{name}-{its}", f"{name}-{its}", desk, inbox)
+            for its in ("machine", "tablet")
         }
         self.is_out = {its: False for its in self.sources}
         self.told: list[tuple[Any, ...]] = []  # for who looks at a failed run
-        self.faults: list[str] = []
 
     def message(self, word: str, **body: Any) -> bytes:
         self.numbers += 1
@@ -105,8 +98,6 @@ class Run:
             self.sources[source].end()
         kill_after = self.random.randint(0, 60) if self.random.random() < 0.03 else None
         self.sources[source].send(kill_after)
-        if source == "tablet":
-            self.open = self.sources[source].open_slots(self.open)
 
     def in_any_order(self) -> list[str]:
         return sorted(self.sources, key=lambda _: self.random.random())
@@ -191,28 +182,20 @@ class Run:
         return None
 
     def board(self) -> None:
-        """A board is worked, in two parts. A machine that obeys places nothing while the interlock
-        says `stop`."""
+        """A board is worked, in two parts."""
         self.boards += 1
         board, machine = f"{self.name}-B{self.boards}", self.sources["machine"]
         at = {"Machine": self.name, "Board": board}
         self.begin_anew()
         start = self.message("WorkStarted", **at)
         self.say("machine", start)
-        begun = machine.last
         half = self.random.randint(0, len(DESIGNATORS))
         for names in (tuple(DESIGNATORS)[:half], tuple(DESIGNATORS)[half:]):
-            if self.obeys and not machine.permits(self.name):
-                if machine.start_of(board):
-                    break
-                return
             placed = [name for name in names if self.place_one(board, name)]
-            if placed and self.obeys and not self.planted:
-                self.look_at_obedience(board, begun)
             if placed:
                 body: dict[str, Any] = {**at, "Designators": placed}
                 if self.names_reels:
-                    body["MachineReels"] = [reel for _, _, reel in self.truth[-len(placed) :]]
+                    body[NAMED] = [reel for _, _, reel in self.truth[-len(placed) :]]
                 self.say("machine", self.message("MaterialsInstalled", **body))
             if self.random.random() < 0.1:  # the machine was switched off, and says where it was
                 self.say("machine", start)
@@ -228,20 +211,6 @@ class Run:
         is_known = bool(board) and bool(self.sources["machine"].start_of(board))
         if is_known and not self.is_out["machine"] and self.random.random() < 0.1:
             self.say("machine", start)
-            if self.obeys and not self.planted and self.sources["machine"].permits(self.name):
-                self.faults.append(
-                    f"the machine obeys, and may work on {board}, which is completed"
-                )
-
-    def look_at_obedience(self, board: str, begun: str) -> None:
-        """Pieces were placed: nothing may have been refused, neither of this board nor of a
-        slot.
-        """
-        is_known = not any(self.is_out.values())
-        if self.sources["machine"].is_refused(board, begun):
-            self.faults.append(f"the machine obeys, and placed pieces of the refused {board}")
-        if self.open and is_known:
-            self.faults.append(f"the machine obeys, and placed pieces with {self.open} refused")
 
     def place_one(self, board: str, designator: str) -> Optional[str]:
         reel = self.take(DESIGNATORS[designator])

@@ -63,12 +63,8 @@ def simulated() -> Iterator[None]:
             (records, "utc", Clock.text),
             # Nothing hangs here, so no thread looks at each request.
             (desks.Desk, "within", nothing),
-            # Nor is anything else asked meanwhile, and each connection costs.
-            (desks.Desk, "hasty", lambda desk, _=0.0: contextlib.nullcontext(desk)),
             # No thread: a sender that ends hands on what it has.
             (places.Line, "begin", lambda _: None),
-            # Nobody reads a status here, and each send would read all that was set aside.
-            (spool.Spool, "last_refused", lambda _: {}),
             (spool.Spool, "whole", Killer.counted(spool.Spool.whole)),
         ):
             held.enter_context(mock.patch.object(owner, name, its))

@@ -11,15 +11,13 @@ examples:
       --mqtt-password-file mqtt.password --prefix plant/L2 --url https://desk.plant
 
 TOPIC/online                 1 while the line can be read, else 0, also if this program is killed
-TOPIC/machines/MACHINE       how it is by its sender's status: State, Cause, Reason, Board, ..
-TOPIC/slots/MACHINE/SLOT     the last load, splice or unload: Reel, Source, and Status, the desk's
-                             answer: 200 if it was accepted, 409 if it was refused
-TOPIC/undecided/ID           untraced work, until somebody decides about it
+TOPIC/machines/MACHINE       whether it may work: State, Board, and each of Causes; of the machines
+                             in the station's set-up
+TOPIC/undecided/NUMBER       an entry of the line's book, until somebody decides about it
 
 Each is an object of JSON, is retained, and is published at each change. A line has a TOPIC of its
 own. In names, a sign with a meaning in topics is %2F and the like. While `online` is 0 nothing else
-is true any more. A machine whose sender is silent has State stop and Cause silent. Stop no machine
-by these topics: that is the sender's interlock.
+is true any more. Stop no machine by these topics: that is the sender's interlock.
 
 --mqtt     the broker, mqtt:// or mqtts://HOST:PORT; it wants Debian's python3-paho-mqtt
 --prefix   the first levels of the topics (tracedesk)
@@ -44,7 +42,6 @@ import time
 import urllib.parse
 from typing import Any, NoReturn
 
-from tracedesk import scans
 from tracedesk_ops import desks, news, plant
 
 PATIENCE = 10.0  # seconds for an answer of the proxy or of the broker
@@ -121,9 +118,8 @@ class Events:
     """What was read of a line, and is to be published."""
 
     def __init__(self, asked: argparse.Namespace) -> None:
-        its = [desks.client(asked, PATIENCE, path) for path in ("", scans.PATH)]
-        self.asked, self.line, self.why = asked, news.News(*its), ""
-        self.scans: list[tuple[str, dict[str, Any]]] = []
+        self.asked, self.why = asked, ""
+        self.line = news.News(desks.client(asked, PATIENCE))
 
     def tell(self, place: str, fault: Exception) -> None:
         text = f"{place}: {str(fault) or repr(fault)}. It is asked again"
@@ -134,19 +130,14 @@ class Events:
     def look(self, broker: Broker) -> None:
         """Publishes what has changed, and takes back what isn't there any more."""
         try:
-            states, new = self.line.read()
+            states = self.line.read()
         except news.Away as fault:
             self.tell(self.asked.url, fault)
             broker.put(ONLINE, "0")
             return
-        self.scans += new
         for name, told in states.items():
             broker.put(name, json.dumps(told, sort_keys=True))
-        while self.scans:
-            name, told = self.scans[0]
-            broker.put(name, json.dumps(told, sort_keys=True))
-            del self.scans[0]
-        for name in [it for it in list(broker.has) if news.is_state(it) and it not in states]:
+        for name in [it for it in list(broker.has) if it not in (*states, ONLINE)]:
             broker.put(name, "")
             del broker.has[name]
         broker.put(ONLINE, "1")

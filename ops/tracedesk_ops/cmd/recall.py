@@ -5,8 +5,8 @@ usage: tracedesk-recall lot NAME.. [--part PART] [OPTION]..
        tracedesk-recall reel NAME.. [OPTION]..
        tracedesk-recall where ATTRIBUTE=VALUE.. [OPTION]..
 options:                [--line LINE FOLDER]..
-                        [--within PIECES] [--show TABLE] [--shipped FILE] [--customer NAME]
-                        [--evidence FOLDER [--key FILE]]
+                        [--as-of TIME] [--within PIECES] [--show TABLE]
+                        [--shipped FILE] [--customer NAME] [--evidence FOLDER [--key FILE]]
 
 examples:
   tracedesk-recall lot L-77            of the lines that are set up on this machine, by
@@ -15,7 +15,7 @@ examples:
   tracedesk-recall where date_code=2614 part=CAP-100N
   tracedesk-recall lot L-77 --line L1 /var/lib/tracedesk/L1
   tracedesk-recall lot L-77 --shipped shipped.csv --evidence L-77 > boards.csv
-  tracedesk-recall board SN-117 --line L1 /mirror/L1        a mirror, without what came since
+  tracedesk-recall lot L-77 --line L1 /mirror/L1 --as-of 2026-03-02T06:00:00Z       a mirror
   tracedesk-recall reel K-01 --show reels
 
 tracedesk-chain reads the sealed files of a line, and a copy of its desk as it is now; copies of all
@@ -29,14 +29,15 @@ supplier, maker_part or order, as tracedesk-reels keeps them. If it is named twi
 of the values. A reel whose attributes nobody gave may be one of them: then the status is 3.
 
 --line          a line's name, and its folder. Of a line on another computer name a mirror of it:
-                its newest sealed file stands for the desk, and the answer is not complete
+                its newest sealed file stands for the desk
+--as-of TIME    the answer is complete for what was reported before, if each mirror goes on to it;
+                without this option none over a mirror is complete
 --within PIECES  a label may be wrong by so many pieces: those so near a splice that they may be of
                 the neighbour are doubtful, from the second splice of a tape on the more
 --show TABLE    the table to print as CSV; without it pieces of a board, and boards of a lot or reel
   boards        of each board its pieces, the first and last minute, the lines, overdue, the files
   pieces        each piece: where it is, its reel, machine and slot, and when it was placed
   reels         of the lot or reel the pieces left, in stock or mounted
-  asked         the files: which were asked, and why the others were not
   untraced      work that the desks refused, on any reel, with the decisions about it
   doubtful      pieces of the lot, reel or board that may be of another reel, and why
 --shipped FILE  a CSV file with the columns board,customer,date, which the boards have then
@@ -60,10 +61,11 @@ import pathlib
 
 from tracedesk_ops import catalogue, chains, files, places, plant
 from tracedesk_ops.firstlook import Line, Question
-from tracedesk_ops.recalls import customers, sets, signing, words
+from tracedesk_ops.recalls import customers, sets, signing, wording, words
 from tracedesk_ops.recalls.certificate import certificate, programs
 from tracedesk_ops.recalls.evidence import LISTED, contents, listing, read_once, write_evidence
 from tracedesk_ops.recalls.recall import Recall
+from tracedesk_ops.recalls.surveyed import Surveyed
 from tracedesk_ops.recalls.tables import Shipped, Table, tables_of
 
 NICE = 5  # the line beside it goes first
@@ -87,14 +89,17 @@ def listed_in(room: pathlib.Path, question: Question) -> pathlib.Path:
 
 def asked(asks: argparse.Namespace, lines: list[Line], room: pathlib.Path) -> Recall:
     """The recall of all lines."""
-    its = sets.question_of(asks.kind, asks.names, asks.part or "", lines)
+    those = Surveyed(lines, room, asks.as_of)
+    its = sets.question_of(asks.kind, asks.names, asks.part or "", those)
     if not its.question.names():
-        for text in (*(f"NOT ASKED: {why}" for why in its.faults), *its.notes):
+        faults = [*those.faults, *its.faults]
+        for text in (*(f"NOT ASKED: {why}" for why in faults), *its.notes):
             plant.tell(text)
-        words.stop(f"no reel is one of {its.question.name}", 3 if its.faults else 1)
-    its = its._replace(question=its.question._replace(within=asks.within))
+        words.stop(f"no reel is one of {its.question.name}", 3 if faults else 1)
+    question = its.question._replace(within=asks.within, as_of=asks.as_of)
+    its = its._replace(question=question)
     chain = chains.Asker(asks.program, its.question.words(listed_in(room, its.question)))
-    recall = Recall(its.question, lines, chain, room)
+    recall = Recall(its.question, those, chain)
     recall.faults += its.faults
     recall.notes += its.notes
     recall.ask()
@@ -118,6 +123,7 @@ def answer(asks: argparse.Namespace, room: pathlib.Path) -> int:
             " one without a file there was not asked"
         )
     own = narrowed(recall, asks, shipped) if asks.customer else None
+    sentence = customers.sentence(recall, own["serials"]) if own else wording.sentence(recall)
     tables = tables_of(recall, shipped)
     if any(str(it)[:1] in FORMULAS for table in tables.values() for row in table for it in row):
         recall.notes.append(
@@ -126,11 +132,12 @@ def answer(asks: argparse.Namespace, room: pathlib.Path) -> int:
         )
     tell(recall)
     try:
-        write(asks, recall, tables, own, key)
+        write(asks, recall, own or tables, key, sentence)
+        shown = asks.show or ("pieces" if asks.kind == "board" else "boards")
+        plant.write_out(catalogue.csv_text(tables[shown]))
     except (plant.Fault, signing.NoSignature, OSError) as fault:
         words.stop(f"the answer can't be written: {fault}", 4)
-    if recall.faults or recall.breaks:
-        plant.tell("NOT COMPLETE: boards may be missing, and the lines above say why")
+    plant.tell(sentence)
     return recall.status()
 
 
@@ -139,7 +146,6 @@ def narrowed(recall: Recall, asks: argparse.Namespace, shipped: Shipped | None) 
     own = customers.narrow(recall, shipped or {}, asks.customer)
     if len(own["serials"]) == 1:
         words.stop(f"{asks.shipped}: it has no board of the customer {asks.customer}")
-    plant.tell(customers.sentence(own["serials"]))
     return own
 
 
@@ -158,11 +164,6 @@ def tell(recall: Recall) -> None:
             f" refused, {row[5]} at {row[6]}, and nobody decided about it (id {row[8]}). Reels:"
             f" {row[9]}"
         )
-    if recall.doubtful:
-        plant.tell(
-            f"DOUBTFUL: {len(recall.doubtful)} pieces may have come from another reel: --show"
-            " doubtful"
-        )
     for note in recall.notes:
         plant.tell(note)
 
@@ -171,19 +172,18 @@ def write(
     asks: argparse.Namespace,
     recall: Recall,
     tables: dict[str, Table],
-    own: dict[str, Table] | None,
     key: pathlib.Path | None,
+    sentence: str,
 ) -> None:
-    """Writes the evidence, and prints the table."""
-    if asks.evidence:
-        told = certificate(recall, own or tables, programs(asks.program))
-        if own:
-            customers.hide(told, own["serials"])
-        its = contents(told, own or tables, recall.question)
-        if asks.shipped and not own:
-            its["shipped.csv"] = read_once(asks.shipped)
-        write_evidence(asks.evidence, its, key)
-        if not key:
-            plant.tell("the evidence is not signed: a reader can't know who made it (--key)")
-    shown = asks.show or ("pieces" if asks.kind == "board" else "boards")
-    plant.write_out(catalogue.csv_text(tables[shown]))
+    """Writes the evidence, if it is asked for."""
+    if not asks.evidence:
+        return
+    told = certificate(recall, tables, programs(asks.program), sentence)
+    if asks.customer:
+        customers.hide(told)
+    its = contents(told, tables, recall.question)
+    if asks.shipped and not asks.customer:
+        its["shipped.csv"] = read_once(asks.shipped)
+    write_evidence(asks.evidence, its, key)
+    if not key:
+        plant.tell("the evidence is not signed: a reader can't know who made it (--key)")

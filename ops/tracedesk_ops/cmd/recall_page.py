@@ -13,12 +13,13 @@ examples:
 
 The proxy lets readers with a log-in of /etc/tracedesk/recallers in, and names them in the header
 X-Reader. `serve` takes their questions into the queue, and shows the answers. It reads no desk's
-file. `work` calls tracedesk-recall for each of them. A recall that is cut off, as by a restart, is
-run anew. One that takes more than four hours is stopped, and each ends, so that the next one is
-run. A program of a recall may take 4 GiB, and a paper five minutes of the processor. The queue is
-on disk, and answers stay there until somebody deletes their folder.
+file. `work` calls tracedesk-recall for each of them, and writes holds and releases into the books
+of the lines that are set up. What is cut off, as by a restart, is done anew. A recall that takes
+more than four hours is stopped, and each ends, so that the next one is run. A program of a recall
+may take 4 GiB, and a paper five minutes of the processor. The queue is on disk, and answers stay
+there until somebody deletes them.
 
---queue   the folder of the queue (/var/lib/tracedesk-recall)
+--queue   the folder of the queue (/var/lib/tracedesk-recall), with the folders asked and answers
 --socket  where the proxy finds the page (/run/tracedesk-recall/socket)
 --once    ends once nothing waits
 
@@ -56,8 +57,9 @@ def parse() -> argparse.Namespace:
     reader.add_argument("--once", action="store_true")
     words = reader.parse_args(own)
     words.more = more
-    if not words.queue.is_dir():
-        reader.error(f"there is no folder {words.queue}: make it, or name another one by --queue")
+    for folder in (words.queue / "asked", words.queue / "answers"):
+        if not folder.is_dir():
+            reader.error(f"there is no folder {folder}: make it, or name another one by --queue")
     return words
 
 

@@ -17,10 +17,10 @@ examples:
 Senders put a record of each refused report of work into the folder `untraced` of the line.
 `collect` appends it to untraced.csv, next to the sealed files. A recall names each board that is in
 it, and ends with status 3 until somebody decided what became of the board. Only `scrapped` takes it
-out of recalls: with each other decision it stays doubtful, with status 5. `collect` also takes the
-attributes of reels out of their receipts, into reels.csv, and writes untraced.json into the folder
-`status` of the line, if it is there, for the station. ID may be the beginning of an id, if no other
-has it. A refused load, splice or unload has a record too, and needs no decision. If a recall names
+out of recalls: with each other decision it stays doubtful, with status 5. `collect` also writes
+untraced.json into the folder `status` of the line, if it is there, for the station, with the
+undecided entries `differs` of the line's book. ID may be the beginning of an id, if no other has
+it. A refused load, splice or unload has a record too, and needs no decision. If a recall names
 pieces as doubtful because of it, and nothing was placed from that reel, decide --became 'taken
 off'. If untraced.csv or reels.csv lacks a row, or its note is gone, and no mirror has it, look for
 that work in the shift's own records. Then decide about `lost` in place of an ID: the rows that are
@@ -37,17 +37,18 @@ which; 9 an unexpected failure.
 from __future__ import annotations
 
 import argparse
+import contextlib
 import time
+from typing import Any
 
-from tracedesk_ops import books, catalogue, collecting, model, options, plant
-from tracedesk_ops import reader_of, receipts, untraced
+from tracedesk_ops import books, catalogue, collecting, model, options, places, plant
+from tracedesk_ops import reader_of, untraced
 from tracedesk_ops.line import LineFolder
 from tracedesk_ops.sealed import FilesFault
 
 
 def collect(asked: argparse.Namespace) -> int:
     """Collects once, or for ever; then a fault is said, and what comes later is still taken."""
-    its = receipts.Receipts(asked.archive)
     while True:
         status = 0
         try:
@@ -59,11 +60,7 @@ def collect(asked: argparse.Namespace) -> int:
                 plant.tell(f"{count} new, {len(untraced.undecided(records))} undecided")
             tell_station(asked, records)
             status = 3 if wrong else 0
-            try:
-                if filled := its.collect():
-                    plant.tell(f"{filled} reels have attributes from their receipts")
-            finally:
-                record_heads(asked)
+            record_heads(asked)
         except (plant.Fault, OSError, ValueError) as fault:
             plant.tell(str(fault))
             status = 3
@@ -83,8 +80,12 @@ def record_heads(asked: argparse.Namespace) -> None:
 
 def tell_station(asked: argparse.Namespace, records: list[untraced.Record]) -> None:
     folder = asked.archive.with_name(model.STATUS)
+    more: list[dict[str, Any]] = []
     if folder.is_dir():
-        collecting.write_status(folder, records)
+        with contextlib.suppress(places.NotSetUp):  # the desk's port isn't known then
+            ports = [its.port for its in places.all_of(asked.archive)]
+            more = [it for port in ports for it in collecting.contradicted(port)]
+        collecting.write_status(folder, records, more)
 
 
 def show(asked: argparse.Namespace) -> int:

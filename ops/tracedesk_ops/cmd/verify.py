@@ -8,9 +8,8 @@ examples:
 
 FOLDER is what tracedesk-recall --evidence wrote. SHA256SUMS must have a signature by a key of FILE:
 nothing else is read before. Each file that it names must be there with its checksum, and no other.
-Its tables must have the rows that its certificate names, and its boards be those of its pieces.
-With the archives at hand tracedesk-chain is asked again, and must name the same pieces. A running
-desk has gone on since: its part is not asked again.
+With the archives at hand tracedesk-chain is asked again, and must name the same pieces, which are
+those of the boards. A running desk has gone on since: its part is not asked again.
 Standard error names the question, its time and lines, and whether the answer is complete.
 
 --signers FILE     whose signatures count: lines as `plant namespaces="tracedesk-recall" ssh-ed25519

@@ -7,79 +7,51 @@ import pathlib
 import flask
 from werkzeug.exceptions import HTTPException
 
-from tracedesk_ops.recallpage import pages, papers, view
-from tracedesk_ops.recallpage.jobs import MOST_BYTES, MOST_SHOWN, JobQuestion, Full, Job, Queue
-from tracedesk_ops.recallpage.jobs import question_of
-from tracedesk_ops.recalls import sets
+from tracedesk_ops.recallpage import pages, papers
+from tracedesk_ops.recallpage.jobs import ANSWER, MOST_BYTES, MOST_SHOWN, Asked, Full, Job, Queue
+from tracedesk_ops.recalls.wording import count
 
 READER = "X-Reader"  # the header in which the proxy names the reader
-KIND_TEXTS = (
-    ("lot", "A lot, or several"),
-    ("reel", "A reel, or several"),
-    ("board", "A board: its pieces"),
-    ("where", "An attribute, as date_code=2614"),
-)
-DOWNLOADS = (
-    (papers.PDF, "PDF"),
-    (papers.SHEET, "Spreadsheet"),
-    (papers.BOARDS, "CSV of the boards"),
-    (papers.PACKED, "Evidence"),
-)
-STATES = {
-    0: "complete",
-    1: "NOT FOUND",
-    3: "NOT COMPLETE",
-    5: "complete, with doubtful pieces",
+RECALL_TEXTS = {
+    "lot": "A lot, or several",
+    "reel": "A reel, or several",
+    "board": "A board: its pieces",
+    "where": "An attribute, as date_code=2614",
 }
+HOLD_TEXTS = {
+    "hold lot": "Hold a lot",
+    "hold reel": "Hold a reel",
+    "release lot": "Release a lot",
+    "release reel": "Release a reel",
+}
+FIELDS = ("kind", "names", "part", "within", "badge", "reason")
 SECONDS_UNTIL_AGAIN = 3
-POLICY = "default-src 'none'; " + "; ".join(
-    (
-        "style-src 'self'",
-        "form-action 'self'",
-        "base-uri 'none'",
-        "frame-ancestors 'none'",
-    )
-)
+HEADERS = {
+    "Content-Security-Policy": "default-src 'none'; style-src 'self'; form-action 'self';"
+    " base-uri 'none'; frame-ancestors 'none'",
+    "X-Content-Type-Options": "nosniff",
+    "Referrer-Policy": "same-origin",  # else Origin is null
+    "Cache-Control": "no-store",
+}
+FAULTS = {
+    403: "This log-in may not recall.",
+    404: "There is no such page.",
+    413: "The file is too large.",
+}
 
 
-def asked_in(form: "dict[str, str]", reader: str) -> JobQuestion:
+def asked_by(reader: str, form: "dict[str, str]") -> Asked:
     """The question in a form; a ValueError says what is wrong with it."""
-    kind, part = form.get("kind", ""), form.get("part", "").strip()
-    names = [name.strip() for name in form.get("names", "").split(",") if name.strip()]
-    if part and kind == "where":
-        names, part = [*names, f"part={part}"], ""
-    within = form.get("within", "").strip() or "0"
-    if not (within.isascii() and within.isdecimal() and len(within) < 6):
-        raise ValueError("by how many pieces a label may be wrong is a number below 100,000")
-    at = f"{datetime.datetime.now(datetime.timezone.utc):%Y-%m-%d %H:%M} UTC"
-    its = {"kind": kind, "names": names, "part": part, "reader": reader, "at": at}
-    return question_of(**its, within=int(within))
-
-
-def title_of(asked: JobQuestion) -> str:
-    part = f" of part {asked.part}" if asked.part else ""
-    if asked.kind == "where":
-        return str(sets.terms_of(asked.names))
-    return f"{asked.kind}{'s' if len(asked.names) > 1 else ''} {', '.join(asked.names)}{part}"
-
-
-def state_of(queue: Queue, job: Job) -> str:
-    ended = job.ended
-    if ended is not None:
-        return STATES.get(int(ended["status"]), "no answer")
-    return "runs" if job.is_running else waits(queue.place(job)).lower()
-
-
-def waits(before: int) -> str:
-    return f"Waits behind {view.count(before, 'other')}" if before else "Is next"
+    its = {name: form.get(name, "").strip() for name in FIELDS}
+    now = datetime.datetime.now().astimezone()
+    asked = Asked(**its, reader=reader, at=f"{now:%Y-%m-%d %H:%M %Z}")
+    asked.check()
+    return asked
 
 
 def reader() -> str:
     """Who asks, as the proxy says."""
-    name = flask.request.headers.get(READER, "")
-    if not name:
-        flask.abort(403)
-    return name
+    return flask.request.headers.get(READER, "") or flask.abort(403)
 
 
 class Site:
@@ -89,14 +61,23 @@ class Site:
         self.queue = queue
 
     def form(self, refused: str, status: int, values: "dict[str, str]") -> tuple[str, int]:
+        newest = reversed(self.queue.all()[-MOST_SHOWN:])
         jobs = [
-            {"name": job.name, "title": title_of(question), "reader": question.reader}
-            | {"at": question.at, "state": state_of(self.queue, job)}
-            for job, question in self.queue.questions(reversed(self.queue.all()[-MOST_SHOWN:]))
+            {"name": job.name, "title": asked.title, "reader": asked.reader, "at": asked.at}
+            | {"state": self.state_of(job)}
+            for job, asked in self.queue.questions(newest)
         ]
-        asked = {name: values.get(name, "") for name in ("kind", "names", "part", "within")}
-        its = {"refused": refused, "kinds": KIND_TEXTS, "asked": asked, "jobs": jobs}
+        asked = {name: values.get(name, "") for name in (*FIELDS, "shipped")}
+        its = {"refused": refused, "asked": asked, "jobs": jobs}
+        its |= {"recalls": RECALL_TEXTS, "holds": HOLD_TEXTS}
         return pages.page(pages.FORM, "Recall", its), status
+
+    def state_of(self, job: Job) -> str:
+        if ended := job.ended:
+            return str(ended["headline"])
+        before = self.queue.before(job)
+        waits = f"Waits behind {count(before, 'other')}." if before else "Is next."
+        return "It is worked off." if job.is_begun else waits
 
     def job_of(self, name: str) -> Job:
         reader()
@@ -111,38 +92,23 @@ class Site:
         upload = flask.request.files.get("shipped")
         shipped = upload.read() if upload else b""
         try:
-            job = self.queue.add(asked_in(values, who), shipped)
+            job = self.queue.add(asked_by(who, values), shipped)
         except ValueError as fault:
             return self.form(f"{str(fault)[:1].upper()}{str(fault)[1:]}.", 400, values)
         except Full as fault:
             return self.form(str(fault), 429, values)
         return flask.redirect(f"/recall/{job.name}/", 303)
 
-    def show(self, name: str) -> str:
+    def show(self, name: str) -> "flask.typing.ResponseReturnValue":
         job = self.job_of(name)
-        ended = job.ended
-        title = title_of(job.asked)
-        if ended is None:
-            return self.waiting(job, title)
-        if not job.evidence.is_dir():
-            said = ended.get("why", "") or job.said
-            headline, lines = view.without_answer(int(ended["status"]), said)
-            return pages.page(pages.NOTHING, title, {"headline": headline, "said": lines})
-        there = [its for its in DOWNLOADS if (job.folder / its[0]).exists()]
-        lacking = [f"No {file}: {why}." for file, why in ended.get("lacking", {}).items()]
-        its: dict[str, object] = {"answer": view.answer_of(job.evidence), "most": view.MOST_ROWS}
-        its["name"] = job.name
-        its |= {"downloads": there, "lacking": lacking}
-        return pages.page(pages.JOB, title, its)
-
-    def waiting(self, job: Job, title: str) -> str:
-        waiting = f"{waits(self.queue.place(job))}."
-        its = {"state": "The archives are being read." if job.is_running else waiting}
-        return pages.page(pages.WAIT, title, its, SECONDS_UNTIL_AGAIN)
+        if job.ended:
+            return flask.send_file(job.folder.resolve() / ANSWER)
+        state = {"state": self.state_of(job)}
+        return pages.page(pages.WAIT, job.asked.title, state, SECONDS_UNTIL_AGAIN)
 
     def download(self, name: str, file: str) -> flask.Response:
         job = self.job_of(name)
-        if file not in papers.FILES or not (job.folder / file).is_file() or job.ended is None:
+        if not job.ended or file not in papers.in_folder(job.folder):
             flask.abort(404)
         path, called = job.folder.resolve() / file, f"recall-{job.name}-{file}"
         return flask.send_file(path, as_attachment=file != papers.PDF, download_name=called)
@@ -153,21 +119,13 @@ def style() -> flask.Response:
 
 
 def wrong(fault: HTTPException) -> tuple[str, int]:
-    texts = {
-        403: "This log-in may not recall.",
-        404: "There is no such page.",
-        413: "The file is too large.",
-    }
     status = fault.code or 500
-    text = texts.get(status, "That can't be done.")
+    text = FAULTS.get(status, "That can't be done.")
     return pages.page(pages.WORD, "Recall", {"text": text}), status
 
 
 def guard(response: flask.Response) -> flask.Response:
-    response.headers["Content-Security-Policy"] = POLICY
-    response.headers["X-Content-Type-Options"] = "nosniff"
-    response.headers["Referrer-Policy"] = "same-origin"  # else Origin is null
-    response.headers["Cache-Control"] = "no-store"
+    response.headers.update(HEADERS)
     return response
 
 

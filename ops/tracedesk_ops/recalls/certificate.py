@@ -12,12 +12,13 @@ import subprocess
 from collections.abc import Iterable
 from typing import Any, NamedTuple
 
-from tracedesk_ops import __version__, files, plant
+from tracedesk_ops import __version__, catalogue, files, plant
 from tracedesk_ops.firstlook import Line
+from tracedesk_ops.recalls import wording
 from tracedesk_ops.recalls.recall import Recall
 from tracedesk_ops.recalls.tables import Table
 
-FILE_NAME, KIND = "certificate.json", "recall 3"
+FILE_NAME, KIND = "certificate.json", "recall 4"
 LISTED = "asked-reels.txt"  # the list of `tracedesk-chain reels`
 LIMITS = (
     "a piece whose placement nobody reported",
@@ -65,12 +66,14 @@ def programs(program: str) -> list[ProgramFile]:
 
 
 def certificate(
-    recall: Recall, tables: dict[str, Table], used: Iterable[ProgramFile]
+    recall: Recall, tables: dict[str, Table], used: Iterable[ProgramFile], sentence: str
 ) -> dict[str, Any]:
     """The certificate of a recall, as JSON has it."""
     status = recall.status()
     return {
         "certificate": KIND,
+        "title": wording.title(recall.question),
+        "sentence": sentence,
         "question": dict(recall.question.about()),
         "asked_at": f"{recall.minute:%Y-%m-%dT%H:%M:00Z}",
         "answer": {
@@ -94,13 +97,17 @@ def line_of(recall: Recall, line: Line) -> dict[str, Any]:
     which these are. `why` is empty if one was asked.
     """
     words = recall.chain.words if recall.chain else []
-    files = [its for its in recall.asked if its.line == line.name and its.sha256]
+    files = [its for its in recall.asked if its.line == line.name]
     return {
         "line": line.name,
         "folder": str(line.folder),
         "words": [LISTED if word.endswith(f"/{LISTED}") else word for word in words],
         "is_chain": line.name in recall.chains,
-        "archives": [{"file": its.file, "sha256": its.sha256, "why": its.why} for its in files],
+        "archives": [
+            {"file": its.file.file, "sha256": its.file.sha256, "commands": its.file.commands}
+            | {"until": catalogue.spelled(its.file.last_minute), "why": its.why}
+            for its in files
+        ],
     }
 
 

@@ -7,7 +7,7 @@ from collections.abc import Iterable
 from typing import Any
 
 from tracedesk_ops import catalogue, copies, sealed
-from tracedesk_ops.recalls import tables
+from tracedesk_ops.recalls import tables, wording
 from tracedesk_ops.recalls.recall import Recall
 from tracedesk_ops.recalls.tables import Shipped, Table
 
@@ -71,13 +71,13 @@ def narrow(recall: Recall, shipped: Shipped, customer: str) -> dict[str, Table]:
     return {"serials": rows, **own}
 
 
-def sentence(serials: Table) -> str:
-    """How many of the serials hold a piece."""
+def sentence(recall: Recall, serials: Table) -> str:
+    """Whether the answer is complete, and how many of the serials hold a piece."""
     count = {word: 0 for word in (YES, NO, PERHAPS, NOT_KNOWN)}
     for row in serials[1:]:
         count[str(row[3])] += 1
     texts = [
-        f"Of your {len(serials) - 1} serials {count[YES]} hold a piece",
+        f"{wording.begin(recall)}: of your {len(serials) - 1} serials {count[YES]} hold a piece",
         f"{count[NO]} hold none",
     ]
     texts += [f"{count[PERHAPS]} may hold one"] if count[PERHAPS] else []
@@ -85,11 +85,10 @@ def sentence(serials: Table) -> str:
     return f"{', '.join(texts)}."
 
 
-def hide(told: dict[str, Any], serials: Table) -> None:
+def hide(told: dict[str, Any]) -> None:
     """Takes out of a certificate what a customer may not see: folders, senders and people of the
     plant, and boards of others, as where two files differ. It has the checksums of the files alone.
     """
-    told["customer"] = sentence(serials)
     told["notes"] = []
     for name in ("not_asked", "no_chain", "twice"):
         told[name] = told[name] and [SAID_TO_THE_PLANT]

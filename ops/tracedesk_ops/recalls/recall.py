@@ -2,37 +2,24 @@
 from __future__ import annotations
 
 import concurrent.futures
-import datetime
 import os
 import pathlib
 import sqlite3
 from typing import Any, NamedTuple
 
-from tracedesk_ops import around, catalogue, chains, doubts, firstlook, model, plant, sealed
-from tracedesk_ops import untraced
+from tracedesk_ops import catalogue, chains, doubts, firstlook, model, plant, sealed, untraced
 from tracedesk_ops.firstlook import Line, Piece, Question, ReelLeft
-from tracedesk_ops.line import LineFolder
-
+from tracedesk_ops.recalls.surveyed import Surveyed
 
 RUNNING = catalogue.RUNNING
 
 
 class Asked(NamedTuple):
-    """What came of asking a file; `why` is empty if it was asked."""
+    """A file of a line, and why it was not asked; empty if it was."""
 
     line: str
-    file: str
-    sha256: str
-    first_minute: str
-    last_minute: str
-    asked: str
-    known: str
-    pieces: int
+    file: catalogue.Archive
     why: str
-
-
-def line_of(line: Line) -> LineFolder:
-    return LineFolder(line.folder)
 
 
 Pieces = list[dict[str, Any]]  # as tracedesk-chain names them
@@ -51,37 +38,31 @@ class Answered(NamedTuple):
 
 class Recall:
     """A question with what all told: `faults` are why some were not asked, `breaks` which archives
-    are no chain, `doubts` what is told twice, `notes` what a reader has to know besides. Copies of
-    the running desks are made in `room`.
+    are no chain, `doubts` what is told twice, `notes` what a reader has to know besides.
     """
 
-    def __init__(
-        self, question: Question, lines: list[Line], chain: chains.Asker, room: pathlib.Path
-    ) -> None:
-        self.question, self.lines, self.chain, self.room = question, lines, chain, room
-        self.minute = datetime.datetime.now(datetime.timezone.utc)
+    def __init__(self, question: Question, those: Surveyed, chain: chains.Asker) -> None:
+        self.question, self.those, self.chain = question, those, chain
+        self.lines, self.files = those.lines, those.files
+        self.minute = those.minute
         self.known = False
         self.pieces: list[Piece] = []
         self.reels: list[ReelLeft] = []
         self.asked: list[Asked] = []
-        self.faults: list[str] = []
+        self.faults = [*those.faults]
         self.breaks: list[str] = []
         self.doubts: list[str] = []
-        self.notes: list[str] = []
-        self.files: dict[str, list[catalogue.Archive]] = {}  # by line, from the oldest on
-        self.stamps: dict[str, tuple[set[str], set[str]]] = {}  # of the files, as they were before
+        self.notes = [*those.notes]
         self.chains: set[str] = set()  # lines whose files are one
         self.untraced: list[list[str]] = []
         self.doubtful: list[list[str]] = []
 
     def ask(self) -> None:
-        for line in self.lines:
-            self.survey(line)
         with concurrent.futures.ThreadPoolExecutor(os.cpu_count()) as threads:
             answers = list(threads.map(self.answered, self.lines))
         for line, answer in zip(self.lines, answers):
             self.take(line, answer)
-            if around.stamp(line_of(line)) != self.stamps[line.name]:
+            if not self.those.is_as_before(line):
                 self.faults.append(
                     f"{line.folder}: its files were changed meanwhile, as by a roll-over or a"
                     " restore: ask again"
@@ -90,35 +71,6 @@ class Recall:
         self.pieces.sort(key=lambda it: (it.board, it.line, it.designator))
         self.reels.sort(key=lambda it: (it[:-1], -1 if it.minute is None else it.minute))
         self.doubt()
-        self.note()
-
-    def survey(self, line: Line) -> None:
-        """Looks at a line's folder: what nobody asks, or can ask, is a fault. The files that are
-        asked are the sealed ones, each behind the one from which it was begun, and the desk as it
-        is now. Without a desk its newest copy is one of them.
-        """
-        its, room = line_of(line), self.room / str(len(self.files))
-        room.mkdir()
-        self.stamps[line.name] = around.stamp(its)
-        survey = around.survey(its, line.name, room=room)
-        newest = survey.desk or survey.last
-        self.files[line.name] = [*survey.archives, *([newest] if newest else [])]
-        self.faults += survey.faults
-        until = f" that came after {newest.file}" if newest else ""
-        if not line.folder.is_dir():
-            self.faults.append(f"{line.folder}: there is no such folder: mount its disk")
-        elif not its.desk.exists():
-            self.faults.append(
-                f"{line.name}: {line.folder} has no desk: pieces{until} are not in the answer. Ask"
-                " on the desk's machine"
-            )
-        elif survey.desk and not plant.is_open(its.desk):
-            self.faults.append(
-                f"{line.name}: no desk of this machine has {its.desk} open: pieces that came since"
-                " are not in the answer. Start its service, or ask on the desk's machine"
-            )
-        if not survey.archives:
-            self.notes.append(f"{line.name}: no archives yet in {line.folder}")
 
     def answered(self, line: Line) -> Answered:
         """What tracedesk-chain answers about the files of a line, from the oldest on. If they are
@@ -157,18 +109,16 @@ class Recall:
         ]
         for file, rows in answer.files.items():
             if isinstance(rows, Exception):
-                self.keep_asked(line, file, "no", why=str(rows))
+                self.asked.append(Asked(line.name, file, str(rows)))
                 continue
+            self.asked.append(Asked(line.name, file, ""))
             for row in rows:
                 row |= {"minute": int(row["minute"]), "line": line.name, "file": file.file}
                 self.pieces.append(Piece(**row))
             try:
-                known = bool(rows) or firstlook.is_known(line, file, self.question)
+                self.known |= bool(rows) or firstlook.is_known(line, file, self.question)
             except sqlite3.Error as fault:
                 self.faults.append(f"{line.name}: {file.file}: {fault}")
-                known = False
-            self.known |= known
-            self.keep_asked(line, file, "yes", "yes" if known else "no", len(rows))
         if answer.files:
             self.left_over(line, list(answer.files)[-1])
 
@@ -180,20 +130,6 @@ class Recall:
                 self.reels += firstlook.left_in(database, line, self.question, minute)
         except sqlite3.Error as fault:
             self.faults.append(f"{line.name}: {newest.file}: {fault}")
-
-    def keep_asked(
-        self,
-        line: Line,
-        it: catalogue.Archive,
-        asked: str,
-        known: str = "",
-        pieces: int = 0,
-        why: str = "",
-    ) -> None:
-        """Keeps what came of asking a file of a line."""
-        first, last = map(catalogue.spelled, (it.first_minute, it.last_minute))
-        came = (asked, known, pieces, why)
-        self.asked.append(Asked(line.name, it.file, it.sha256, first, last, *came))
 
     def refused(self, line: Line, fault: Exception) -> None:
         """Takes why there is no answer about a line's chain."""
@@ -242,15 +178,14 @@ class Recall:
                 f" {it.board} in {it.file} and in {other.file}: these files have the same commands,"
                 " or a board's name came again"
             )
-        there = [row for row in self.asked if row.sha256]
-        for row in there:
-            same = [other for other in there if other.sha256 == row.sha256 and other != row]
-            if same:
-                names = ", ".join(f"{other.line} {other.file}" for other in same)
-                self.doubts.append(
-                    f"{row.line} {row.file} has the same checksum as {names}:"
-                    " it is one file, on two lines"
-                )
+        places: dict[str, list[str]] = {}
+        for row in self.asked:
+            places.setdefault(row.file.sha256, []).append(f"{row.line} {row.file.file}")
+        self.doubts += [
+            f"{' and '.join(those)} have the same checksum: it is one file, on two lines"
+            for those in places.values()
+            if len(those) > 1
+        ]
         lines: dict[tuple[str, str, str], set[str]] = {}
         for piece in self.pieces:
             if piece.file == RUNNING:
@@ -259,19 +194,6 @@ class Recall:
             self.doubts.append(
                 f"the running desks of {' and '.join(both)} have the same pieces: one of them is a"
                 " copy"
-            )
-
-    def note(self) -> None:
-        kind, name = self.question.kind, self.question.name
-        if not self.known and not self.faults:
-            self.notes.append(
-                f"nobody knows the {kind} {name}: look at its spelling; names are told apart to the"
-                " letter"
-            )
-        elif self.known and not self.pieces:
-            self.notes.append(
-                f"the {kind} {name} is known, and no piece "
-                + ("is placed on it" if kind == "board" else "of it is placed")
             )
 
     def status(self) -> int:

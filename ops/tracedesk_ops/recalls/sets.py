@@ -4,21 +4,24 @@ other names of a reel that changed lines.
 from __future__ import annotations
 
 import collections
-import contextlib
 import pathlib
 import re
 import sqlite3
 from collections.abc import Iterable, Iterator, Sequence
 from typing import NamedTuple
 
-from tracedesk_ops import around, attributes, books, catalogue, copies, sealed, stored
-from tracedesk_ops.line import LineFolder
+from tracedesk_ops import attributes, books, copies, entries, sealed, stored
 from tracedesk_ops.firstlook import Line, Question
+from tracedesk_ops.line import LineFolder
+from tracedesk_ops.recalls.surveyed import Surveyed
 
 REELS = "SELECT reel, part, lot FROM reel"
+RECEIVED = "SELECT reel, word, told FROM book WHERE kind = 'attribute' ORDER BY n"
 MOVES = "SELECT uid, command FROM accepted WHERE uid >= 'move-' AND uid < 'move.'"
 MOVE = re.compile(r"(move-.+-\d+-\d+?)(-left)?-\d+")
 MOST_NAMED = 20  # reels in a message
+
+Cards = dict[attributes.Reel, list[attributes.Given]]  # with what each of their receipts has
 
 
 class Terms(NamedTuple):
@@ -59,28 +62,32 @@ def terms_of(words: Iterable[str]) -> Terms:
 
 
 class Known:
-    """What the files of all lines know of reels: `cards` has the parts and lots of each name, `old`
-    and `new` the names of each move, and `faults` what could not be looked at.
+    """What files, each with its line's name, know of reels: `cards` has the parts and lots of each
+    name, each with the attributes that its receipts have, `old` and `new` the names of each move,
+    and `faults` what could not be looked at.
     """
 
-    def __init__(self, lines: Sequence[Line]) -> None:
-        self.cards: dict[str, dict[attributes.Reel, None]] = collections.defaultdict(dict)
+    def __init__(self, files: Iterable[tuple[str, pathlib.Path]]) -> None:
+        self.cards: dict[str, Cards] = collections.defaultdict(dict)
         self.old: dict[str, set[str]] = collections.defaultdict(
             set
         )  # by the beginning of UniqueIDs
         self.new: dict[str, set[str]] = collections.defaultdict(set)
         self.faults: list[str] = []
-        for line in lines:
-            for file, is_running in files_of(line):
-                try:
-                    with opened(file, is_running) as database:
-                        self.read(database)
-                except (OSError, sqlite3.Error, copies.InUse) as fault:
-                    self.faults.append(f"{line.name}: the reels of {file} aren't known: {fault}")
+        for line, file in files:
+            try:
+                with sealed.opened(file) as database:
+                    self.read(database)
+            except (OSError, sqlite3.Error) as fault:
+                self.faults.append(f"{line}: the reels of {file} aren't known: {fault}")
 
     def read(self, database: sqlite3.Connection) -> None:
+        received: dict[str, attributes.Given] = collections.defaultdict(dict)
+        for reel, word, told in self.received(database):
+            received[reel][attributes.RECEIVED[word]] = entries.plain(told).strip()
         for row in copies.rows(database, REELS):
-            self.cards[row[0]][attributes.Reel(*row)] = None
+            those = self.cards[row[0]].setdefault(attributes.Reel(*row), [])
+            those += [its for its in [received[row[0]]] if its and its not in those]
         for uid, command in copies.rows(database, MOVES):
             if found := MOVE.fullmatch(uid):
                 word, body = stored.body(command)
@@ -88,6 +95,12 @@ class Known:
                     self.new[found[1]].add(body["Reel"])
                 elif word == "CountsTaken" and found[2]:
                     self.old[found[1]].update(row["Reel"] for row in body["Counts"])
+
+    @staticmethod
+    def received(database: sqlite3.Connection) -> Iterator[tuple[str, str, str]]:
+        """What the receipts of a file say of reels besides, by the book of the line."""
+        if sealed.has(database, sealed.BOOK):
+            yield from copies.rows(database, RECEIVED)
 
     def twice(self, reels: Iterable[str]) -> Iterator[str]:
         """Which of these names are of several receipts: a set of reels is a set of names."""
@@ -133,34 +146,16 @@ class Meant(NamedTuple):
     known: Known | None = None
 
 
-def files_of(line: Line) -> Iterator[tuple[pathlib.Path, bool]]:
-    """The files of a line, and whether it is that of the running desk."""
-    its = LineFolder(line.folder)
-    survey = around.survey(its, line.name, sealed.named)
-    last = [survey.last] if survey.last and not its.desk.exists() else []
-    for archive in (*survey.archives, *last):
-        yield catalogue.path_of(line.folder, archive), False
-    if its.desk.exists():
-        yield its.desk, True
-
-
-@contextlib.contextmanager
-def opened(file: pathlib.Path, is_running: bool) -> Iterator[sqlite3.Connection]:
-    with contextlib.ExitStack() as held:
-        desk = held.enter_context(around.desk_now(file)) if is_running else None
-        yield held.enter_context(sealed.opened(desk.path if desk else file))
-
-
 def title(kind: str, names: Sequence[str], part: str) -> str:
     of_part = f" of part {part}" if part else ""
     return f"the {kind}s {', '.join(names)}{of_part}"
 
 
-def question_of(kind: str, names: Sequence[str], part: str, lines: Sequence[Line]) -> Meant:
+def question_of(kind: str, names: Sequence[str], part: str, those: Surveyed) -> Meant:
     """The question that these words ask."""
     if kind == "board" or kind == "lot" and len(names) == 1:
         return Meant(Question(kind, names[0], part), [], [])
-    known = Known(lines)
+    known = Known(those.paths())
     if kind == "reel":
         reels = known.followed(names)
         more = [name for name in reels if name not in names]
@@ -175,7 +170,7 @@ def question_of(kind: str, names: Sequence[str], part: str, lines: Sequence[Line
         unknown = [lot for lot in names if not any(card.lot == lot for card in cards)]
         notes = [f"no line here knows the lot {lot}" for lot in unknown]
         return Meant(its, [*known.faults, *known.twice(of_lots)], notes)
-    return where(terms_of(names), known, lines)
+    return where(terms_of(names), known, those.lines)
 
 
 def where(terms: Terms, known: Known, lines: Sequence[Line]) -> Meant:
@@ -194,7 +189,12 @@ def where(terms: Terms, known: Known, lines: Sequence[Line]) -> Meant:
         faults += wrong
     for reel, cards in known.cards.items():  # what a desk knows counts
         told = those.get(reel, [attributes.Reel(reel)])
-        those[reel] = [its._replace(part=it.part, lot=it.lot) for its in told for it in cards]
+        those[reel] = [
+            attributes.filled(its, it, more)
+            for its in told
+            for it in cards
+            for more in cards[it] or [{}]
+        ]
     lacking = sorted(reel for reel, its in those.items() if any(map(terms.lack, its)))
     if lacking:
         named = ", ".join(lacking[:MOST_NAMED])

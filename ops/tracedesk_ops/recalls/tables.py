@@ -7,7 +7,7 @@ from typing import Any
 
 from tracedesk_ops import catalogue, tapes, untraced
 from tracedesk_ops.firstlook import Piece, ReelLeft
-from tracedesk_ops.recalls.recall import Asked, Recall
+from tracedesk_ops.recalls.recall import Recall
 
 Table = list[Sequence[Any]]  # the first row is the header
 Shipped = dict[str, list[list[str]]]  # by board the customers and dates
@@ -65,7 +65,6 @@ def tables_of(recall: Recall, shipped: Shipped | None) -> dict[str, Table]:
             [*ReelLeft._fields[:-1], "as_of"],
             *([*it[:-1], spelled(it.minute) or now] for it in recall.reels),
         ],
-        "asked": [Asked._fields, *recall.asked],
         "untraced": [
             ["line", *untraced.WORK, "id", "reels", *untraced.OUTCOME],
             *recall.untraced,

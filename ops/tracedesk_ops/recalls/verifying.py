@@ -61,18 +61,12 @@ def signed(folder: pathlib.Path, signers: pathlib.Path, name: str = "") -> tuple
 
 
 def told_in(contents: Contents) -> dict[str, Any]:
-    """What the certificate says, if the tables have the rows that it names, and its boards are
-    those of its pieces.
-    """
+    """What the certificate says."""
     try:
         told = dict(json.loads(contents[certificate.FILE_NAME]))
         if told["certificate"] != certificate.KIND:
             raise Refused(f"{certificate.FILE_NAME} is of another version of tracedesk-recall")
-        for name, rows in told["answer"].items():
-            if f"{name}.csv" in contents and len(rows_of(contents, name)) != rows:
-                raise Refused(f"{name}.csv has not the rows that {certificate.FILE_NAME} names")
-        want_boards(contents)
-    except (KeyError, ValueError, TypeError, AttributeError, RecursionError) as fault:
+    except (KeyError, ValueError, TypeError, RecursionError) as fault:
         raise Refused(f"{certificate.FILE_NAME} is missing or can't be read: {fault!r}") from fault
     return told
 
@@ -95,15 +89,9 @@ def want_boards(contents: Contents) -> None:
 
 def said(told: dict[str, Any]) -> str:
     """What was asked, when and of which lines, and whether the answer is complete."""
-    its = {"part": "", "within": "", **told["question"]}
-    question = f"{its['kind']} {its['name']}" if its["kind"] != "reels" else its["name"]
-    question += "".join(f" {name} {its[name]}" for name in ("part", "within") if its[name])
     lines = ", ".join(line["line"] for line in told["lines"])
-    whole = (
-        "complete" if told["answer"]["is_complete"] else "NOT COMPLETE, as certificate.json says"
-    )
-    own = f" {told['customer']}" if "customer" in told else ""
-    return f"{question}, asked at {told['asked_at']} of the lines {lines}: {whole}.{own}"
+    asked = f"{told['title']}, asked at {told['asked_at']} of the lines {lines}"
+    return f"{asked}. {told['sentence']}"
 
 
 def again(
@@ -114,8 +102,9 @@ def again(
     room: pathlib.Path,
 ) -> Iterator[str]:
     """Asks tracedesk-chain again about the archives in these folders; yields what came of each
-    line. A Refused if an archive is another one, or the answer is.
+    line. A Refused if an archive is another one, or the answer is, or its boards are.
     """
+    want_boards(contents)
     chain = plant.chain_of(program)
     if not chain:
         raise chains.NoAnswer("there is no tracedesk-chain next to tracedesk: CHAIN names it")

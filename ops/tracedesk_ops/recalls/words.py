@@ -32,10 +32,9 @@ def parse(text: str | None) -> argparse.Namespace:
     )
     parser.add_argument("--part", type=options.identifier, help="of lots, this part alone")
     parser.add_argument("--within", type=pieces, default=0, metavar="PIECES")
+    parser.add_argument("--as-of", type=options.minute_of, metavar="TIME")
     parser.add_argument("--line", nargs=2, action="append", default=[], metavar=("LINE", "FOLDER"))
-    parser.add_argument(
-        "--show", choices=("boards", "pieces", "reels", "asked", "untraced", "doubtful")
-    )
+    parser.add_argument("--show", choices=("boards", "pieces", "reels", "untraced", "doubtful"))
     for option, metavar in (
         ("shipped", "FILE"),
         ("evidence", "FOLDER"),
