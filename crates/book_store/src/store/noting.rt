@@ -1,6 +1,6 @@
 //! An entry of the book.
 
-ghost use Rattle.std.specs.Prelude.{◌≡◌, ◌++◌, ◌∷◌, [], IfErr, IfOk, IfSome};
+ghost use Rattle.std.specs.Prelude.{◌≡◌, ◌++◌, ◌∷◌, [], IfErr, IfOk, IfSome, length};
 ghost use Rattle.sqlite.specs.State.{HasCleanDisk};
 ghost use Rattle.desk_types.specs.History.{History};
 ghost use Rattle.line_book.specs.Book.{Book};
@@ -8,6 +8,7 @@ ghost use Rattle.line_book.specs.declared.note.Note.{Note as Entry};
 ghost use Rattle.line_book.specs.Guard.{IsGuard, IsNextNote};
 ghost use Rattle.line_book.specs.Rows.{read_on};
 ghost use Rattle.line_book_store.specs.Checking.{IsRead};
+ghost use Rattle.line_schema.specs.Stands.{Kept, Stands};
 ghost use Rattle.book_store.specs.Accepted.{RefusesRow};
 ghost use Rattle.book_store.specs.Ended.{Ends, with_note};
 ghost use Rattle.book_store.specs.Lists.{ForLists, Lists, Serves, StandsFor, book_state};
@@ -32,6 +33,9 @@ impl<S: Alter, D: KeepsRows + Drop> BookStore<S, D> {
         ensures noted { ForLists S.Store D.Stands self.old self.new (λ L.
             Ends S.Store D.Stands self.old self.new L result (λ _ M. (n : Entry)
             × IsRead self.old.reading row.now n × (M ≡ with_note L row.now n))) }
+        // A row is refused for its own fault.
+        ensures refused { (L : Kept) → Stands S.Store D.Stands self.old.store L
+            → IfErr result (RefusesRow self.old.reading (length L.history) row.now) }
         // A disk that has lied is never honest again.
         ensures clean { HasCleanDisk (book_state S.Store self.new)
             → HasCleanDisk (book_state S.Store self.old) }

@@ -5,6 +5,7 @@ use Rattle.line_book_store.specs.Checking.{AreRead}
 use Rattle.book_store.proofs.Cleaning.{clean_still}
 use Rattle.book_store.proofs.Ending.{ends_told}
 use Rattle.book_store.proofs.Noting.{next_note, next_row, one_more, row_follows}
+use Rattle.book_store.specs.Accepted.{RefusesRow}
 use Rattle.book_store.specs.Ended.{with_note}
 use Rattle.book_store.proofs.store.BookStore.note.Goals as goal
 
@@ -49,6 +50,20 @@ returns-in_err-note-clause-noted g c L was clean own =
       crash = λ trees may. elim ((c.note.ensures.crash L.kept L.rows was.both next own).crash clean trees may)
           [ inl before ↦ inl before | inr left ↦ inr (tt, with_note L row n, (n, is, refl), left) ];
     })
+
+pub returns-in_err-entry-clause-refused : goal.returns-in_err-entry-clause-refused
+returns-in_err-entry-clause-refused g c L stands =
+    let before = c.args.self.now.reading in
+    let row = c.args.row.now in
+    let told = err_from_is_err_and c.from_residual.result c.from_residual.ensures.1 in
+    let fault = c.in_err-entry.field-0.0 in
+    rw (told.1, told.2) (subst (λ k. RefusesRow before k row fault) (c.count.ensures L stands)
+    c.in_err-entry.ensures.err)
+
+pub returns-in_err-note-clause-refused : goal.returns-in_err-note-clause-refused
+returns-in_err-note-clause-refused g c L stands =
+    let told = err_from_is_err_and c.from_residual-in_err-note.result c.from_residual-in_err-note.ensures.1 in
+    rw (told.1, told.2) tt
 
 pub returns-clause-clean : goal.returns-clause-clean
 returns-clause-clean g c clean =
