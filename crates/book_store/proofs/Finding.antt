@@ -6,7 +6,7 @@ use Rattle.line_schema.specs.{Frames.ReadsStore, Stands.Kept, Stands.Stands, Sta
 use Rattle.line_schema.specs.declared.store.LineStore.{LineStore}
 use Rattle.line_tables.proofs.Common.{Database, Ghosts, HasCleanDisk, Schema}
 use Rattle.book_store.proofs.Places.{has_none, shelf_has}
-use Rattle.book_store.specs.Opened.{Finds, HasPlace, HasShelf, Knows}
+use Rattle.book_store.specs.Opened.{Finds, HadRows, HasPlace, HasShelf, Knows, KnowsBoth}
 use Rattle.book_store.specs.Restored.{IsRestored}
 use Rattle.book_store.specs.declared.restoring.Restored.{Restored}
 
@@ -42,6 +42,13 @@ module _ {S D : Type 0} (g : Ghosts S) (F : D → Basis → Type 0) (old new : L
         guard = is.guard clean own;
       }
 
+  -- A book that was there has the rows that were read.
+  pub finds_by : (HasCleanDisk (state_of g new) → IsTrue L.own → HasShelf (state_of g old).committed)
+      → HasCleanDisk (state_of g new) → IsTrue L.own
+      → (k : KnowsBoth g F new L r) × HadRows (state_of g old).committed k.rows
+  unfolding knows_by
+  finds_by has clean own = (knows_by has clean own, λ shelf. (is.all clean).holds shelf.0 shelf.1)
+
 -- ---- results
 
 pub ok_always : {A E : Type 0} (r : Result A E) (P : Type 0) → P → OnOk r P
@@ -66,5 +73,10 @@ module _ {S D : Type 0} (g : Ghosts S) (F : D → Basis → Type 0) (old new : L
       (IsTrue (state_of g old).is_open)) → (IsAlone (state_of g old).committed → IfOk r (Knows g F new L))
       → (IsTrue (state_of g old).is_open → HasPlace (state_of g old).committed → IsAlone
       (state_of g old).committed) → IfOk r (Finds g F old new L)
-  begun_by (Ok x) opened lists alone = λ place clean own. lists (alone (opened clean) place) clean own
+  begun_by (Ok x) opened lists alone = λ place clean own.
+      let none = alone (opened clean) place in (
+        lists none clean own,
+        λ shelf. absurd (has_none (state_of g old).committed
+            (ap (λ (s : Schema). has_book s.tables) shelf.1 ∙ shelf_has shelf.0) none),
+      )
   begun_by (Err e) opened lists alone = tt

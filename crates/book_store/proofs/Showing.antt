@@ -70,7 +70,7 @@ row_same x y same =
       told = told i;
     }
 
-rows_same : (xs ys : List BookRow) → map entry_columns xs ≡ map entry_columns ys
+pub rows_same : (xs ys : List BookRow) → map entry_columns xs ≡ map entry_columns ys
     → map written_row xs ≡ map written_row ys
 rows_same [] [] same = refl
 rows_same [] (y ∷ ys) same = cc

@@ -9,7 +9,7 @@ use Rattle.line_book.specs.declared.note.Note.{Note}
 use Rattle.line_book.specs.declared.row.BookRow.{BookRow}
 use Rattle.line_book.specs.Guard.{IsGuard}
 use Rattle.line_book.specs.Rows.{first_reading}
-use Rattle.line_book_store.specs.Book.{IsAlone, Shelf, book_schema}
+use Rattle.line_book_store.specs.Book.{HoldsBook, IsAlone, Shelf, book_schema}
 use Rattle.line_book_store.specs.Checking.{AreRead}
 use Rattle.line_book_store.specs.Names.{has_book}
 use Rattle.line_book_store.specs.declared.fault.BookFault.{BookFault}
@@ -57,19 +57,25 @@ abbrev pub Knows : {S D : Type 0} → Ghosts S → (D → Basis → Type 0) → 
 Knows g Desks store L r =
     HasCleanDisk (state_of g store) → IsTrue L.own → KnowsBoth g Desks store L r
 
--- The same, if the book has its place in the file.
+-- If the file had a book, these are its rows.
+abbrev pub HadRows : Database → List BookRow → Type 0
+HadRows db rows = HasShelf db → HoldsBook db rows
+
+-- The same as `Knows`, if the book has its place in the file. A book that was there is the store's.
 abbrev pub Finds : {S D : Type 0} → Ghosts S → (D → Basis → Type 0) → LineStore S D
     → LineStore S D → Kept → Restored → Type 0
-Finds g Desks old new L r = HasPlace (state_of g old).committed → Knows g Desks new L r
+Finds g Desks old new L r = HasPlace (state_of g old).committed → HasCleanDisk (state_of g new)
+    → IsTrue L.own → (k : KnowsBoth g Desks new L r) × HadRows (state_of g old).committed k.rows
 
--- The file's tables have the book's name or none. If the disk is honest, the tables are the desk's own and the book has its place,
--- the store represents the history and the book of its file.
+-- The file's tables have the book's name or none. If the disk is honest, the tables are the desk's
+-- own and the book has its place, the store represents the history and the book of its file.
 pub record Opens {S D : Type 0} (g : Ghosts S) (Desks : D → Basis → Type 0)
     (old : LineStore S D) (store : BookStore S D) (L : Kept) : Type 0 where
   pub named : IsNamed (state_of g old)
   pub lists : HasPlace (state_of g old).committed → HasCleanDisk (book_state g store)
       → IsTrue L.own → (rows : List BookRow) × (notes : List Note)
       × StandsFor g Desks store (record { kept = L; rows = rows; notes = notes })
+      × HadRows (state_of g old).committed rows
 
 -- A crash leaves what it could leave before or, in a file without a book, the history with an empty
 -- book. Once such a file was opened, it leaves only both.

@@ -1,2 +1,3 @@
 pub mod CallsInTurn
 pub mod Growing
+pub mod NextRun

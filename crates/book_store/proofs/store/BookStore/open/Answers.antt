@@ -5,8 +5,9 @@ pub returns-in-Ok-clause-opened : goal.returns-in-Ok-clause-opened
 returns-in-Ok-clause-opened g c L stands = record {
   named = c.in-Ok.ensures.named L stands;
   lists = λ place clean own.
-      let both = c.in-Ok.ensures.lists L stands place clean own in
-      (both.rows, both.notes, record { both = both.both; read = both.read; guard = both.guard });
+      let found = c.in-Ok.ensures.lists L stands place clean own in
+      let both = found.0 in
+      (both.rows, both.notes, record { both = both.both; read = both.read; guard = both.guard }, found.1);
 }
 
 pub returns-in-Ok-clause-serves : goal.returns-in-Ok-clause-serves

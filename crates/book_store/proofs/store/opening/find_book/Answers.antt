@@ -2,7 +2,7 @@ use Rattle.desk_types.proofs.Common.{◌∙◌, ◌≡◌, ap, false, IfOk-weake
 use Rattle.line_book_store.specs.Names.{has_book}
 use Rattle.line_schema.proofs.StandsAfter.{disowned}
 use Rattle.line_schema.specs.Stands.{state_of}
-use Rattle.book_store.proofs.Finding.{alone_there, begun_by, err_always, err_weaker, knows_by, ok_always}
+use Rattle.book_store.proofs.Finding.{alone_there, begun_by, err_always, err_weaker, finds_by, ok_always}
 use Rattle.book_store.proofs.Finding.{shelf_there, wrong_later}
 use Rattle.book_store.proofs.InTurn.{store_same}
 use Rattle.book_store.proofs.{Opening.only_read, Places.has_none}
@@ -27,7 +27,7 @@ returns-then-has-clause-lists g c L stands =
     let old = state_of g.S.Store c.args.store.now in
     let named : IsTrue old.is_open → has_book old.committed.schema.tables ≡ Ok true = λ is_open. sym
     (c.has_book.ensures.committed L stands is_open) ∙ c.in-Ok.is ∙ ap Ok c.if-has.true in
-    IfOk-weaker c.restore.result _ _ (λ r is place. knows_by g.S.Store g.D.Desk.Stands c.args.store.now
+    IfOk-weaker c.restore.result _ _ (λ r is place. finds_by g.S.Store g.D.Desk.Stands c.args.store.now
     c.restore.new.store L r c.restore.ensures.reads stands is (λ clean own. shelf_there old.committed place
     (named (is.all clean).was_open))) (c.restore.ensures.ok L stands)
 
