@@ -1,5 +1,5 @@
-"""tracedesk-line is asked about files that `tracedesk feed` made, without a book and with one: its
-output, its exit statuses, and that it changes no file.
+"""tracedesk-line and files that nobody serves, without a book and with one: its output, its exit
+statuses, and that it changes no file that it is only asked about.
 """
 import json
 import pathlib
@@ -35,6 +35,8 @@ OPEN: Cause = {
     "Refusal": "UnknownReel",
     "Slot": "1",
 }
+HEADER = "n,after,kind,source,uid,machine,slot,board,reel,word,of,told,state\n"
+HOLD = '{"Hold":"reel","Name":"K1","By":"A","Reason":"r"}'
 EMPTY: Cause = {"Cause": "AtSlot", "Reel": None, "Refusal": "SlotEmpty", "Slot": "1"}
 
 
@@ -76,18 +78,28 @@ class Files:
     def contents(self) -> dict[str, bytes]:
         return {file.name: file.read_bytes() for file in self.folder.glob("*.db")}
 
+    def run(self, *words: str) -> Ended:
+        done = subprocess.run([self.line, *words], capture_output=True, text=True, cwd=self.folder)
+        return Ended(done.returncode, done.stdout, done.stderr)
+
     def ask(self, *words: str) -> Ended:
         """A run with these words, which changes no file, and makes none."""
         before = self.contents()
-        done = subprocess.run([self.line, *words], capture_output=True, text=True, cwd=self.folder)
+        ended = self.run(*words)
         assert self.contents() == before
-        return Ended(done.returncode, done.stdout, done.stderr)
+        return ended
 
     def audit(self) -> Ended:
         return self.ask("audit", "--db", "line.db")
 
+    def book(self) -> Ended:
+        return self.ask("book", "--db", "line.db")
+
     def state(self, machine: str = "M") -> Ended:
         return self.ask("state", "--db", "line.db", "--machine", machine)
+
+    def note(self, kind: str, told: str) -> Ended:
+        return self.run("note", "--db", "line.db", "--kind", kind, "--told", told)
 
 
 @pytest.fixture
@@ -133,6 +145,63 @@ def test_an_open_entry_stops_its_machine(files: Files) -> None:
     assert files.state() == (0, state_of(8, "B1"), "")
 
 
+def test_a_book_is_printed_with_what_its_entries_ask_for(files: Files) -> None:
+    files.feed(STARTED)
+    assert files.book() == (0, HEADER, "")
+    files.sql(BOOK, entry(1, 6))
+    row = '1,6,handling,S,u9,M,1,,K9,UnknownReel,0,"{}",{}\n'
+    told = TOLD.replace('"', '""')
+    assert files.book() == (0, HEADER + row.format(told, "open"), "")
+    files.feed([*STARTED, "MaterialsUnloaded M 1", "MaterialsLoaded M 1 K1"])
+    assert files.book() == (0, HEADER + row.format(told, ""), "")
+
+
+def test_lists_that_are_missing_are_made(files: Files) -> None:
+    for _ in range(2):
+        assert files.run("make", "--db", "line.db") == (0, "lawful 0 book 0\n", "")
+    assert files.book() == (0, HEADER, "")
+    (files.folder / "line.db").unlink()
+    files.feed(STARTED)
+    assert files.run("make", "--db", "line.db") == (0, "lawful 6 book 0\n", "")
+    assert files.audit() == (0, "lawful 6 book 0\n", "")
+    files.sql(entry(1, 6))
+    assert files.run("make", "--db", "line.db") == (0, "lawful 6 book 1\n", "")
+
+
+def test_what_somebody_says_is_an_entry(files: Files) -> None:
+    files.feed(STARTED)
+    assert files.note("hold", HOLD) == (0, '{"Answer":"Held","Entry":1}\n', "")
+    held: Cause = {"Cause": "Held", "Entry": 1, "Reel": "K1", "Slot": "1"}
+    assert files.state() == (0, state_of(6, "B1", held), "")
+    decided = '{"Of":1,"Became":"kept","By":"A","Reason":"r"}'
+    assert files.note("decision", decided) == (0, '{"Answer":"Decided","Entry":2}\n', "")
+    released = HOLD.replace("Hold", "Release")
+    assert files.note("release", released) == (0, '{"Answer":"Released","Entry":3}\n', "")
+    assert files.state() == (0, state_of(6, "B1"), "")
+    kinds = [line.split(",")[2] for line in files.book().output.splitlines()[1:]]
+    assert kinds == ["hold", "decision", "release"]
+
+
+@pytest.mark.parametrize(
+    "kind, told, answer",
+    [
+        ("hold", "wrong label", '{"Answer":"Faulty","Fault":"NotJson"}'),
+        ("hold", "{}", '{"Answer":"Faulty","Fault":"BodyMember","Member":"Hold"}'),
+        (
+            "decision",
+            '{"Of":2,"Became":"kept","By":"A","Reason":"r"}',
+            '{"Answer":"NotFound","Kind":"Entry"}',
+        ),
+    ],
+)
+def test_what_is_not_taken_writes_no_entry(
+    files: Files, kind: str, told: str, answer: str
+) -> None:
+    files.feed(STARTED)
+    assert files.note(kind, told) == (1, answer + "\n", "")
+    assert files.audit() == (0, "lawful 6 book 0\n", "")
+
+
 def test_no_sheet_is_for_a_machine(files: Files) -> None:
     files.feed(STARTED)
     assert files.state("M2") == (1, '{"Answer":"NotFound","Kind":"Machine"}\n', "")
@@ -150,8 +219,12 @@ def test_no_sheet_is_for_a_machine(files: Files) -> None:
 def test_a_wrong_book_is_refused_by_name(files: Files, change: list[str], fault: str) -> None:
     files.feed(STARTED)
     files.sql(*change)
-    for ended in files.audit(), files.state():
+    for ended in files.audit(), files.state(), files.book():
         assert ended == (3, "", f"tracedesk: book {fault}\n")
+    before = files.contents()
+    for ended in files.run("make", "--db", "line.db"), files.note("hold", HOLD):
+        assert ended == (3, "", f"tracedesk: book {fault}\n")
+    assert files.contents() == before
 
 
 def test_a_wrong_history_is_refused_by_name(files: Files) -> None:
@@ -169,6 +242,10 @@ def test_a_wrong_history_is_refused_by_name(files: Files) -> None:
         ("state", "--db", "line.db"),
         ("state", "--db", "line.db", "--machine", " M"),
         ("audit", "--db", "line.db", "--machine", "M"),
+        ("book", "--db", "line.db", "--after", "1"),
+        ("make",),
+        ("note", "--db", "line.db", "--kind", "hold"),
+        ("note", "--db", "line.db", "--kind", "attribute", "--told", "{}"),
     ],
 )
 def test_arguments_without_a_meaning(files: Files, words: tuple[str, ...]) -> None:

@@ -1,2 +1,3 @@
 mod ListsOpened
 mod ListsRead
+mod Sayings

@@ -1,5 +1,5 @@
 -- What was read of a file, as its two lists.
-use Rattle.desk_types.proofs.Common.{◌≡◌, ◌⊎◌, Err, IfErr, IfOk, inl, inr, IsSomeAnd, None, Ok, Option, Result, Some}
+use Rattle.desk_types.proofs.Common.{◌≡◌, ◌⊎◌, Err, IfErr, IfOk, inl, inr, IsSomeAnd, None, Ok, Option, Result, Some, Bool}
 use Rattle.desk_types.proofs.Common.{subst}
 use Rattle.feeder_state.specs.State.{Represents}
 use Rattle.feeder_state.specs.declared.desk.StateDesk.{StateDesk}
@@ -37,8 +37,9 @@ no-line Has Told fault has (inr told) = inr (fault, has, told)
 
 module _ {F : Type 0} {g : disk.Ghosts F} {image : Image} {first : Files F} (f : Files F)
     (read : Result (Line StateDesk) ListFault) (fresh : IsJustOpened g image first) where
-  pub line-at : IfOk read (FindsLine Represents g (image_of g first) f) → IfOk read (HasLine g image (Some f))
-  line-at = subst (λ (i : Image). IfOk read (FindsLine Represents g i f)) fresh.held
+  pub line-at : (with_rows : Bool) → IfOk read (FindsLine Represents with_rows g (image_of g first) f)
+      → IfOk read (HasLine with_rows g image (Some f))
+  line-at with_rows = subst (λ (i : Image). IfOk read (FindsLine Represents with_rows g i f)) fresh.held
 
   pub fault-at : IfErr read (FindsFault g (image_of g first) f) → IfErr read (HasFault g image (Some f))
   fault-at = subst (λ (i : Image). IfErr read (FindsFault g i f)) fresh.held

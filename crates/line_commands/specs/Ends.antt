@@ -1,5 +1,5 @@
 -- How the commands on a file end, by their exit status.
-use Rattle.std.specs.Prelude.{◌≡◌, ◌⊎◌, ℕ, List, Option, None, Some, codes, decimal, length, ◌++◌}
+use Rattle.std.specs.Prelude.{◌≡◌, ◌⊎◌, ℕ, List, Option, None, Some, codes, decimal, length, map, ◌++◌}
 use Rattle.sqlite_disk.specs.declared.Disk as disk
 use Rattle.sqlite_disk.specs.declared.Files.{Files}
 use Rattle.sqlite_wal.specs.Recovery.{Image}
@@ -12,7 +12,9 @@ use Rattle.http_stream.specs.Answers.{Told}
 use Rattle.http_stream.specs.declared.response.MediaType.TheVariants.{Json}
 use Rattle.http_stream.specs.declared.response.Status.{Status}
 use Rattle.http_stream.specs.declared.response.Status.TheVariants as status
+use Rattle.line_answers.specs.declared.book.Wanted.TheVariants.{After}
 use Rattle.line_answers.specs.declared.kind.Kind.TheVariants.{Machine}
+use Rattle.line_answers.specs.Book.{book_text, written_row}
 use Rattle.line_answers.specs.NotFound.{not_found_text}
 use Rattle.line_answers.specs.State.{state_text}
 use Rattle.feeder_state.specs.declared.desk.StateDesk.{StateDesk}
@@ -53,6 +55,16 @@ abbrev pub AnswersState : {F : Type 0} → disk.Ghosts F → Image → Option (F
     → Type 0
 AnswersState g image files machine answer = AreListsOf g image files
     (λ H rows B. answer ≡ told_state (state_text H B machine))
+
+-- The book's text, of each history and book for which the line stands.
+abbrev pub IsBookBy : Line StateDesk → List ℕ → Type 0
+IsBookBy line text = (H : History) (B : Book) → IsGuard H B line.lists.guard
+    → text ≡ book_text H B (After 0) (map written_row line.rows.items)
+
+-- It is the book's text, of the lists that the file held when it was opened.
+abbrev pub IsBook : {F : Type 0} → disk.Ghosts F → Image → Option (Files F) → List ℕ → Type 0
+IsBook g image files text = AreListsOf g image files
+    (λ H rows B. text ≡ book_text H B (After 0) (map written_row rows))
 
 -- The line that says which list is at fault.
 abbrev pub fault_line : ListFault → List ℕ

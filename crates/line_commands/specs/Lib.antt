@@ -1,3 +1,4 @@
 pub mod Ends
+pub mod Noting
 pub mod Reading
 pub mod Serving

@@ -1,5 +1,5 @@
 -- The lists of the file at a path.
-use Rattle.std.specs.Prelude.{◌≡◌, ◌⊎◌, ⊤, ℕ, Option, None, Some, IfSome, IsSomeAnd, length}
+use Rattle.std.specs.Prelude.{◌≡◌, ◌⊎◌, ⊤, ℕ, Bool, Option, None, Some, IfSome, IsSomeAnd, length}
 use Rattle.sqlite_disk.specs.declared.Disk as disk
 use Rattle.sqlite_disk.specs.declared.Files.{Files}
 use Rattle.sqlite_wal.specs.Recovery.{Image}
@@ -13,9 +13,10 @@ use Rattle.line_file.specs.declared.store.Line.{Line}
 use Rattle.line_file.specs.Files.{FindsFault, FindsLine, IsKept}
 
 -- A file was opened and closed, and the line is that of its lists.
-abbrev pub HasLine : {F : Type 0} → disk.Ghosts F → Image → Option (Files F) → Line StateDesk
-    → Type 0
-HasLine g image files line = IsSomeAnd files (λ f. FindsLine Represents g image f line)
+abbrev pub HasLine : {F : Type 0} → Bool → disk.Ghosts F → Image → Option (Files F)
+    → Line StateDesk → Type 0
+HasLine with_rows g image files line =
+    IsSomeAnd files (λ f. FindsLine Represents with_rows g image f line)
 
 -- The file is missing, empty or can't be opened. Or it was opened and closed, and has this fault.
 abbrev pub HasFault : {F : Type 0} → disk.Ghosts F → Image → Option (Files F) → ListFault → Type 0

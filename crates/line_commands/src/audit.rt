@@ -36,7 +36,7 @@ pub fn audit_lists<T: Start, W: Write, E: Write>(
     // Nothing of the file changes.
     ensures kept { KeepsFile ⟦<FileFrom<T> as Disk>⟧ (image_at T.Start) result.1 }
 {
-    let (line, files) = read_file(rt, path, start);
+    let (line, files) = read_file(rt, path, start, false);
     match line {
         Ok(line) => {
             let entries = line.lists.reading.entries;

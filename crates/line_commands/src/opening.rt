@@ -15,17 +15,19 @@ use line_schema::OpenFault;
 use sqlite::{FileFrom, Files, Start};
 use sqlite_disk::Disk;
 
-/// Reads both lists of the file at a path, and closes it. None is made. `T` is its contents when it is opened.
+/// Reads both lists of the file at a path, and closes it. None is made. `T` is its contents when it is opened, and
+/// `with_rows` asks for the rows of the book too.
 pub fn read_file<T: Start>(
     rt: &HostRuntime,
     path: &str,
     start: T,
+    with_rows: bool,
 ) -> (
     Result<Line<StateDesk>, ListFault>,
     Option<Files<FileFrom<T>>>,
 )
     ensures lists { IfOk result.0
-        (HasLine ⟦<FileFrom<T> as Disk>⟧ (image_at T.Start) result.1) }
+        (HasLine with_rows ⟦<FileFrom<T> as Disk>⟧ (image_at T.Start) result.1) }
     ensures fault { IfErr result.0
         (HasFault ⟦<FileFrom<T> as Disk>⟧ (image_at T.Start) result.1) }
     ensures room { IfOk result.0 (λ line. HasRoom Represents line.desk 0) }
@@ -33,7 +35,7 @@ pub fn read_file<T: Start>(
 {
     match open_file(rt, path, start) {
         Ok(files) => {
-            let (line, files) = read_line(rt, files);
+            let (line, files) = read_line(rt, files, with_rows);
             (line, Some(files))
         }
         Err(fault) => (Err(ListFault::History(fault)), None),

@@ -43,7 +43,7 @@ pub fn tell_state<T: Start, W: Write, E: Write>(
     // Nothing of the file changes.
     ensures kept { KeepsFile ⟦<FileFrom<T> as Disk>⟧ (image_at T.Start) result.1 }
 {
-    let (line, files) = read_file(rt, path, start);
+    let (line, files) = read_file(rt, path, start, false);
     match line {
         Ok(line) => (
             tell_answer(rt.alloc(), &line, machine, output, errors),

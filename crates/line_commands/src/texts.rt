@@ -6,7 +6,7 @@ ghost use Rattle.desk_commands.specs.Told.{TellsLine, unavailable_line};
 ghost use Rattle.desk_commands.specs.Wires.{HaveFewFailures};
 ghost use Rattle.line_commands.specs.Ends.{counts_line, json_told};
 
-use desk_answers::{WriteFailed, send_line};
+use desk_answers::{WriteFailed, send, send_line};
 use desk_commands::{Exit, send_text, tell_line, unavailable};
 use desk_types::Wire;
 use http_stream::Status;
@@ -46,6 +46,21 @@ pub fn tell_json<W: Write, E: Write>(
     match send_line(output, text) {
         Ok(()) if status.code() == 200 => Exit::Done as u8,
         Ok(()) => Exit::Refused as u8,
+        Err(WriteFailed) => {
+            tell_line(errors, "tracedesk: Write");
+            Exit::Failed as u8
+        }
+    }
+}
+
+/// Prints a text. Returns the exit status.
+pub fn tell_csv<W: Write, E: Write>(text: &[u8], output: &mut Wire<W>, errors: &mut Wire<E>) -> u8
+    requires few { HaveFewFailures output.old errors.old }
+    ensures ends { PrintEnds W.contents E.contents output.old output.new errors.old errors.new
+        text.now ⊥ result }
+{
+    match send(output, text) {
+        Ok(()) => Exit::Done as u8,
         Err(WriteFailed) => {
             tell_line(errors, "tracedesk: Write");
             Exit::Failed as u8

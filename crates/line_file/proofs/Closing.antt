@@ -1,5 +1,5 @@
 -- What was read of files that were closed again.
-use Rattle.desk_types.proofs.Common.{◌≡◌, Basis, Err, IfErr, IfOk, inl, inr, Ok, refl, Result, subst, sym}
+use Rattle.desk_types.proofs.Common.{◌≡◌, Basis, Bool, Err, IfErr, IfOk, inl, inr, Ok, refl, Result, subst, sym}
 use Rattle.line_tables.proofs.Common.{Database, file_state, HasCleanDisk, Held, over_files, ReadsOnly}
 use Rattle.desk_types.specs.Desk.{HasRoom}
 use Rattle.desk_file.specs.Files.{IsFoundIn}
@@ -32,25 +32,25 @@ module _ {F : Type 0} {g : disk.Ghosts F} (image : Image) (first conn : Held (Fi
   keeps stays line told (inl (same, copies)) clean = kept-whole image first conn f since (copies clean)
   keeps stays line told (inr (same, leaves)) clean = kept-left image first conn f since stays (leaves clean)
 
-  by-line : {D : Type 0} (StandsFor : D → Basis → Type 0) (told : Result (Line D) ListFault)
-      → IfOk told (ReadsLine StandsFor (IsSound (file_state conn)) (file_state first))
-      → (AreClean g f.log f.db → IsCopied conn f) → IfOk told (FindsLine StandsFor g image f)
-  by-line StandsFor (Ok line) is copies =
+  by-line : {D : Type 0} (StandsFor : D → Basis → Type 0) (with_rows : Bool) (told : Result (Line D) ListFault)
+      → IfOk told (ReadsLine StandsFor with_rows (IsSound (file_state conn)) (file_state first))
+      → (AreClean g f.log f.db → IsCopied conn f) → IfOk told (FindsLine StandsFor with_rows g image f)
+  by-line StandsFor with_rows (Ok line) is copies =
       λ clean. let copied = copies clean in (
-        named-in image first conn f since copied StandsFor line is,
-        λ place. line-in image first conn f since copied place StandsFor line is,
+        named-in image first conn f since copied StandsFor with_rows line is,
+        λ place. line-in image first conn f since copied place StandsFor with_rows line is,
       )
-  by-line StandsFor (Err fault) is copies = tt
+  by-line StandsFor with_rows (Err fault) is copies = tt
 
-  pub finds-line : {D : Type 0} (StandsFor : D → Basis → Type 0) (line told : Result (Line D) ListFault)
-      → Closes line conn told f
-      → IfOk line (ReadsLine StandsFor (IsSound (file_state conn)) (file_state first))
-      → IfOk told (FindsLine StandsFor g image f)
-  finds-line StandsFor line told (inl (same, copies)) is =
-      by-line StandsFor told (subst (λ r. IfOk r (ReadsLine StandsFor (IsSound (file_state conn)) (file_state first)))
-      (sym same) is) copies
-  finds-line StandsFor line told (inr (same, leaves)) is =
-      subst (λ r. IfOk r (FindsLine StandsFor g image f)) (sym same) tt
+  pub finds-line : {D : Type 0} (StandsFor : D → Basis → Type 0) (with_rows : Bool)
+      (line told : Result (Line D) ListFault) → Closes line conn told f
+      → IfOk line (ReadsLine StandsFor with_rows (IsSound (file_state conn)) (file_state first))
+      → IfOk told (FindsLine StandsFor with_rows g image f)
+  finds-line StandsFor with_rows line told (inl (same, copies)) is =
+      by-line StandsFor with_rows told (subst (λ r. IfOk r (ReadsLine StandsFor with_rows (IsSound (file_state conn))
+      (file_state first))) (sym same) is) copies
+  finds-line StandsFor with_rows line told (inr (same, leaves)) is =
+      subst (λ r. IfOk r (FindsLine StandsFor with_rows g image f)) (sym same) tt
 
   by-fault : {X : Type 0} (told : Result X ListFault)
       → (IsSound (file_state conn) → IfErr told (ReadsFault (file_state first)))

@@ -1,5 +1,5 @@
 -- The line or the fault of files, by their contents at the opening.
-use Rattle.desk_types.proofs.Common.{◌∙◌, ◌≡◌, ap, arith, Basis, Err, IfErr, IfOk, inl, inr, length, Ok, Result, subst, sym, true, ℕ}
+use Rattle.desk_types.proofs.Common.{◌∙◌, ◌≡◌, ap, arith, Basis, Bool, Err, IfErr, IfOk, inl, inr, length, Ok, Result, subst, sym, true, ℕ}
 use Rattle.line_tables.proofs.Common.{Database, file_state, HasCleanDisk, Held, is_ours, IsOurs, Two}
 use Rattle.desk_file.proofs.RefusedFiles.{fault_in}
 use Rattle.desk_file.specs.Files.{IsFoundIn}
@@ -46,13 +46,14 @@ module _ {F : Type 0} {g : disk.Ghosts F} (image : Image) (first conn : Held (Fi
   there : IsFoundIn image db
   there = found-first image first conn f since copied.was_clean
 
-  pub named-in : {D : Type 0} (StandsFor : D → Basis → Type 0) (line : Line D)
-      → ReadsLine StandsFor (IsSound (file_state conn)) (file_state first) line → IsNamedIn image
-  named-in StandsFor line reads = (db, there, reads.is.lists.named sound)
+  pub named-in : {D : Type 0} (StandsFor : D → Basis → Type 0) (with_rows : Bool) (line : Line D)
+      → ReadsLine StandsFor with_rows (IsSound (file_state conn)) (file_state first) line → IsNamedIn image
+  named-in StandsFor with_rows line reads = (db, there, reads.is.lists.named sound)
 
-  pub line-in : HasListsFirst image → {D : Type 0} (StandsFor : D → Basis → Type 0) (line : Line D)
-      → ReadsLine StandsFor (IsSound (file_state conn)) (file_state first) line → IsLineIn StandsFor image line
-  line-in place StandsFor line reads =
+  pub line-in : HasListsFirst image → {D : Type 0} (StandsFor : D → Basis → Type 0) (with_rows : Bool) (line : Line D)
+      → ReadsLine StandsFor with_rows (IsSound (file_state conn)) (file_state first) line
+      → IsLineIn StandsFor with_rows image line
+  line-in place StandsFor with_rows line reads =
       let here = place db there in
       let own = reads.own ∙ named-ours db here in
       let lists = reads.is.lists in
@@ -74,6 +75,7 @@ module _ {F : Type 0} {g : disk.Ghosts F} (image : Image) (first conn : Held (Fi
         guard = lists.guard sound own;
         count = reads.is.count;
         entries = omega (arith, many.0, many.1);
+        told = lists.told sound own here;
       }
 
   pub fault-of : HasListsFirst image → (fault : ListFault) → ReadsFault (file_state first) fault

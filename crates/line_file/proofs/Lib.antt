@@ -3,3 +3,4 @@ mod Found
 mod Kept
 mod Lines
 mod Results
+mod Windows

@@ -1,5 +1,5 @@
 -- The line of a book and a desk.
-use Rattle.desk_types.proofs.Common.{◌≡◌, arith, Basis, Err, IfErr, IfOk, IsTrue, length, None, Ok, Option, refl, Result, Some, subst, sym, ℕ}
+use Rattle.desk_types.proofs.Common.{◌≡◌, arith, Basis, Bool, Err, IfErr, IfOk, IsTrue, length, None, Ok, Option, refl, Result, Some, subst, sym, ℕ}
 use Rattle.desk_types.specs.declared.rules.Rules.TheVariants.{Two}
 use Rattle.desk_types.specs.Desk.{HasRoom}
 use Rattle.desk_types.specs.History.{basis}
@@ -11,27 +11,28 @@ use Rattle.line_schema.specs.Traces.{working_of}
 use Rattle.line_traces.specs.declared.working.Working.{Working}
 use Rattle.line_file.specs.declared.fault.ListFault.{ListFault}
 use Rattle.line_file.specs.declared.fault.ListFault.TheVariants.{History as AtHistory, Book as AtBook}
+use Rattle.line_file.specs.declared.lists.Found.{Found}
 use Rattle.line_file.specs.declared.store.Line.{Line}
-use Rattle.book_store.specs.declared.restoring.Restored.{Restored}
 use Rattle.book_store.specs.Opened.{HasPlace}
 use Rattle.line_file.specs.Lines.{IsLineOf, IsListFault, line_of, ReadsFault}
-use Rattle.line_file.specs.Lists.{ReadsLists, HoldsRows, IsBookFault, IsNamed, IsSound}
+use Rattle.line_file.specs.Lists.{AreTold, ReadsLists, HoldsRows, IsBookFault, IsNamed, IsSound}
 use Rattle.line_file.proofs.Results.{fault-before}
 use Rattle.line_tables.specs.Calls.{Reads}
 use Rattle.line_tables.specs.Rows.{Holds}
 use Rattle.line_replay.specs.Rows.{ledger_tables}
 
-pub line-is : {D : Type 0} (StandsFor : D → Basis → Type 0) (L : Kept) (commands : ℕ) (Sound : Type 0) (old : State)
-    (lists : Result Restored BookFault) (working : Option (Working D)) → IfOk lists (ReadsLists L Sound old)
+pub line-is : {D : Type 0} (StandsFor : D → Basis → Type 0) (L : Kept) (commands : ℕ) (with_rows : Bool)
+    (Sound : Type 0) (old : State) (lists : Result Found BookFault) (working : Option (Working D))
+    → IfOk lists (ReadsLists L with_rows Sound old)
     → WorksFor StandsFor working L.history → commands ≡ length L.history
-    → IfOk (line_of commands lists working) (IsLineOf StandsFor L Sound old)
-line-is StandsFor L commands Sound old (Err f) working is works counted = tt
-line-is StandsFor L commands Sound old (Ok lists) None is works counted = tt
-line-is StandsFor L commands Sound old (Ok lists) (Some w) is works counted =
+    → IfOk (line_of commands lists working) (IsLineOf StandsFor L with_rows Sound old)
+line-is StandsFor L commands with_rows Sound old (Err f) working is works counted = tt
+line-is StandsFor L commands with_rows Sound old (Ok lists) None is works counted = tt
+line-is StandsFor L commands with_rows Sound old (Ok lists) (Some w) is works counted =
     record { desk = works.stands; count = counted; lists = is }
 
 pub fault-is : {D : Type 0} (L : Kept) (commands : ℕ) (old : State)
-    (lists : Result Restored BookFault) (working : Option (Working D))
+    (lists : Result Found BookFault) (working : Option (Working D))
     → IfErr lists (IsBookFault (length L.history) old)
     → IfErr (line_of commands lists working) (IsListFault L old)
 fault-is L commands old (Err f) working is = is
@@ -39,7 +40,7 @@ fault-is L commands old (Ok lists) None is = refl
 fault-is L commands old (Ok lists) (Some w) is = tt
 
 pub has-room : {S D : Type 0} (g : Ghosts S) (StandsFor : D → Basis → Type 0) (store : LineStore S D) (L : Kept)
-    (commands : ℕ) (lists : Result Restored BookFault) (working : Option (Working D))
+    (commands : ℕ) (lists : Result Found BookFault) (working : Option (Working D))
     → Stands g StandsFor store L → working ≡ working_of store
     → IfOk (line_of commands lists working) (λ line. HasRoom StandsFor line.desk 0)
 has-room g StandsFor store L commands (Err f) working stands same = tt
@@ -50,10 +51,11 @@ has-room g StandsFor store L commands (Ok lists) (Some w) stands same =
 
 -- ---- by a connection that was opened before
 
-pub line-before : {D : Type 0} (StandsFor : D → Basis → Type 0) (L : Kept) (old mid new : State)
+pub line-before : {D : Type 0} (StandsFor : D → Basis → Type 0) (L : Kept) (with_rows : Bool) (old mid new : State)
     → (HasCleanDisk new → KeepsCommit old mid) → (HasCleanDisk new → IsTrue new.is_open → IsTrue mid.is_open)
-    → (line : Line D) → IsLineOf StandsFor L (IsSound new) mid line → IsLineOf StandsFor L (IsSound new) old line
-line-before StandsFor L old mid new kept opens line is = record {
+    → (line : Line D) → IsLineOf StandsFor L with_rows (IsSound new) mid line
+    → IsLineOf StandsFor L with_rows (IsSound new) old line
+line-before StandsFor L with_rows old mid new kept opens line is = record {
   desk = is.desk;
   count = is.count;
   lists = record {
@@ -64,6 +66,8 @@ line-before StandsFor L old mid new kept opens line is = record {
     book = λ sound. subst (λ (db : Database). HasPlace db → HoldsRows db is.lists.rows)
         ((kept sound.0).committed (opens sound.0 sound.1)) (is.lists.book sound);
     guard = is.lists.guard;
+    told = λ sound own. subst (λ (db : Database). HasPlace db → AreTold with_rows is.lists.rows line.rows.items)
+        ((kept sound.0).committed (opens sound.0 sound.1)) (is.lists.told sound own);
   };
 }
 

@@ -1,5 +1,5 @@
 -- Both lists of files, which are closed again.
-use Rattle.std.specs.Prelude.{◌≡◌, ◌⊎◌, ℕ, List, length, Err, Result, Option, IsSomeAnd}
+use Rattle.std.specs.Prelude.{◌≡◌, ◌⊎◌, ℕ, Bool, List, length, Err, Result, Option, IsSomeAnd}
 use Rattle.sqlite_disk.specs.declared.Disk as disk
 use Rattle.sqlite_disk.specs.declared.Files.{Files}
 use Rattle.sqlite_store.specs.declared.store.FileStore.{FileStore}
@@ -33,7 +33,7 @@ use Rattle.book_store.specs.Opened.{HasPlace}
 use Rattle.line_file.specs.declared.fault.ListFault.{ListFault}
 use Rattle.line_file.specs.declared.fault.ListFault.TheVariants.{History as AtHistory, Book as AtBook}
 use Rattle.line_file.specs.declared.store.Line.{Line}
-use Rattle.line_file.specs.Lists.{HoldsRows, IsNamed}
+use Rattle.line_file.specs.Lists.{AreTold, HoldsRows, IsNamed}
 
 -- ---- both lists
 
@@ -50,8 +50,8 @@ pub record HoldsLists (db : Database) (greatest : ℕ) (H : History) (rows : Lis
   pub read : (last : Reading) × AreRead (first_reading (length H)) rows B last
 
 -- The line is that of the lists that the files held when they were opened.
-pub record IsLineIn {D : Type 0} (StandsFor : D → Basis → Type 0) (image : Image)
-    (line : Line D) : Type 0 where
+pub record IsLineIn {D : Type 0} (StandsFor : D → Basis → Type 0) (with_rows : Bool)
+    (image : Image) (line : Line D) : Type 0 where
   pub db : Database
   pub found : IsFoundIn image db
   pub greatest : ℕ
@@ -63,16 +63,17 @@ pub record IsLineIn {D : Type 0} (StandsFor : D → Basis → Type 0) (image : I
   pub guard : IsGuard history notes line.lists.guard
   pub count : line.commands ≡ length history
   pub entries : line.lists.reading.entries ≡ length rows
+  pub told : AreTold with_rows rows line.rows.items
 
 -- Some open of the files finds no other table in the book's place.
 abbrev pub IsNamedIn : Image → Type 0
 IsNamedIn image = (db : Database) × IsFoundIn image db × IsNamed db
 
 -- If no disk lied until the files were closed, no other table is in the book's place; and the line is that of the lists.
-abbrev pub FindsLine : {D F : Type 0} → (D → Basis → Type 0) → disk.Ghosts F → Image → Files F
-    → Line D → Type 0
-FindsLine StandsFor g image f line =
-    AreClean g f.log f.db → IsNamedIn image × (HasListsFirst image → IsLineIn StandsFor image line)
+abbrev pub FindsLine : {D F : Type 0} → (D → Basis → Type 0) → Bool → disk.Ghosts F → Image
+    → Files F → Line D → Type 0
+FindsLine StandsFor with_rows g image f line = AreClean g f.log f.db
+    → IsNamedIn image × (HasListsFirst image → IsLineIn StandsFor with_rows image line)
 
 -- This is true of the history, the rows and their entries that files held when they were opened. No other table was in
 -- the book's place. Both hold if no disk lied until the files were closed.

@@ -14,15 +14,16 @@ use state_rows::KeepsRows;
 
 /// Reads both lists of files that nobody serves, and closes the files. Each command is judged again, and each entry of
 /// the book is checked. A file without a book has an empty one, and gets none. If the files can't be closed, nothing is
-/// returned of them.
+/// returned of them. `with_rows` asks for the rows of the book too.
 pub fn read_line<F: Disk + Drop, D: KeepsRows + Drop>(
     rt: &HostRuntime,
     files: Files<F>,
+    with_rows: bool,
 ) -> (Result<Line<D>, ListFault>, Files<F>)
     requires log { IsTrue (F.Disk.is_usable files.log) }
     requires db { IsTrue (F.Disk.is_usable files.db) }
     ensures lists { IfOk result.0
-        (FindsLine D.Stands F.Disk (image_of F.Disk files) result.1) }
+        (FindsLine D.Stands with_rows F.Disk (image_of F.Disk files) result.1) }
     ensures fault { IfErr result.0 (FindsFault F.Disk (image_of F.Disk files) result.1) }
     ensures room { IfOk result.0 (λ line. HasRoom D.Stands line.desk 0) }
     // What the files held they hold.
@@ -30,7 +31,7 @@ pub fn read_line<F: Disk + Drop, D: KeepsRows + Drop>(
 {
     match connect_to(rt, files) {
         Ok(conn) => {
-            let (line, conn) = read_connection(rt.alloc(), conn);
+            let (line, conn) = read_connection(rt.alloc(), conn, with_rows);
             close_after(line, conn)
         }
         Err(files) => (Err(UNAVAILABLE), files),

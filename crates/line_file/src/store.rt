@@ -9,8 +9,9 @@ ghost use Rattle.line_file.specs.Lines.{IsLineOf, IsListFault, ReadsFault, Reads
 ghost use Rattle.line_file.specs.Lists.{IsSound};
 
 use crate::fault::{ListFault, UNAVAILABLE};
-use crate::lists::read_lists;
+use crate::lists::{Found, read_lists};
 use book_store::Restored;
+use line_book::BookRow;
 use line_book_store::BookFault;
 use line_schema::LineStore;
 use line_traces::Working;
@@ -23,6 +24,8 @@ use std::alloc::Global;
 pub struct Line<D> {
     pub desk: D,
     pub lists: Restored,
+    /// The rows of the book if they were asked for, else none.
+    pub rows: Vec<BookRow>,
     /// The number of accepted commands.
     pub commands: u32,
 }
@@ -31,16 +34,17 @@ pub struct Line<D> {
 pub fn read_connection<S: Alter, D: KeepsRows + Drop>(
     alloc: Global,
     conn: Connection<S>,
+    with_rows: bool,
 ) -> (Result<Line<D>, ListFault>, Connection<S>)
     ensures ok { IfOk result.0
-        (ReadsLine D.Stands (IsSound (state S.Store result.1)) (state S.Store conn)) }
+        (ReadsLine D.Stands with_rows (IsSound (state S.Store result.1)) (state S.Store conn)) }
     ensures err { IsSound (state S.Store result.1)
         → IfErr result.0 (ReadsFault (state S.Store conn)) }
     ensures room { IfOk result.0 (λ line. HasRoom D.Stands line.desk 0) }
     ensures reads { ReadsOnly S.Store conn result.1 }
 {
     match LineStore::open(alloc, conn) {
-        Ok(store) => read_store(alloc, store),
+        Ok(store) => read_store(alloc, store, with_rows),
         Err((fault, conn)) => (Err(ListFault::History(fault)), conn),
     }
 }
@@ -48,9 +52,11 @@ pub fn read_connection<S: Alter, D: KeepsRows + Drop>(
 fn read_store<S: Alter, D: KeepsRows + Drop>(
     alloc: Global,
     store: LineStore<S, D>,
+    with_rows: bool,
 ) -> (Result<Line<D>, ListFault>, Connection<S>)
     ensures ok { (L : Kept) → Stands S.Store D.Stands store L → IfOk result.0
-        (IsLineOf D.Stands L (IsSound (state S.Store result.1)) (state_of S.Store store)) }
+        (IsLineOf D.Stands L with_rows (IsSound (state S.Store result.1))
+        (state_of S.Store store)) }
     ensures err { (L : Kept) → Stands S.Store D.Stands store L
         → IsSound (state S.Store result.1)
         → IfErr result.0 (IsListFault L (state_of S.Store store)) }
@@ -60,20 +66,20 @@ fn read_store<S: Alter, D: KeepsRows + Drop>(
 {
     let mut store = store;
     let commands = store.count();
-    let lists = read_lists(alloc, &mut store);
+    let lists = read_lists(alloc, &mut store, with_rows);
     let (conn, working) = store.into_parts();
     (line_of(commands, lists, working), conn)
 }
 
 fn line_of<D: KeepsRows + Drop>(
     commands: u32,
-    lists: Result<Restored, BookFault>,
+    found: Result<Found, BookFault>,
     working: Option<Working<D>>,
 ) -> Result<Line<D>, ListFault>
-    ensures { result ≡ line_of commands lists working }
+    ensures { result ≡ line_of commands found working }
 {
-    let lists = match lists {
-        Ok(lists) => lists,
+    let Found { lists, rows } = match found {
+        Ok(found) => found,
         Err(fault) => return Err(ListFault::Book(fault)),
     };
     match working {
@@ -85,6 +91,7 @@ fn line_of<D: KeepsRows + Drop>(
         ) => Ok(Line {
             desk,
             lists,
+            rows,
             commands,
         }),
         None => Err(UNAVAILABLE),

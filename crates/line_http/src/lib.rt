@@ -15,3 +15,4 @@ mod sayings;
 
 pub use handler::{LineHandler, serve};
 pub use law::the_desk_is_served_alike;
+pub use sayings::answer_saying;

@@ -9,8 +9,12 @@ use Rattle.clap.specs.declared.error.kind.ErrorKind.{ErrorKind}
 use Rattle.desk_types.specs.Id.{IsId, Name}
 use Rattle.desk_types.specs.declared.limits.TheConstants.{MOST_PORT}
 use Rattle.desk_words.specs.CommandLine.{IsText, Shows, ShowsNone, number_of, required_option}
+use Rattle.line_answers.specs.declared.noted.Noted.{Noted}
+use Rattle.line_answers.specs.declared.noted.Noted.TheVariants.{Decided, Held, Released}
 use Rattle.line_words.specs.declared.command_line.LineCommand.{LineCommand}
-use Rattle.line_words.specs.declared.command_line.LineCommand.TheVariants.{Serve, State, Audit, Text, Bad}
+use Rattle.line_words.specs.declared.command_line.LineCommand.TheVariants.{Serve, Note, State, Whole, Text, Bad}
+use Rattle.line_words.specs.declared.command_line.Task.{Task}
+use Rattle.line_words.specs.declared.command_line.Task.TheVariants.{Make, Book, Audit}
 
 -- ---- the grammar
 
@@ -35,10 +39,22 @@ state_shape = record (new_shape (codes "state")) {
       required_option (codes "db") ∷ required_option (codes "machine") ∷ [];
 }
 
--- `audit` has a file.
-abbrev pub audit_shape : Shape
-audit_shape =
-    record (new_shape (codes "audit")) { rules = required_option (codes "db") ∷ [] }
+-- `note` has a file, a kind and what is said, each exactly once.
+abbrev pub note_shape : Shape
+note_shape = record (new_shape (codes "note")) {
+  rules = required_option (codes "db")
+      ∷ required_option (codes "kind") ∷ required_option (codes "told") ∷ [];
+}
+
+-- A command with this name has a file alone.
+abbrev pub file_shape : List ℕ → Shape
+file_shape name = record (new_shape name) { rules = required_option (codes "db") ∷ [] }
+
+-- The command that asks for the task.
+abbrev pub task_name : Task → List ℕ
+task_name Make = codes "make"
+task_name Book = codes "book"
+task_name Audit = codes "audit"
 
 -- The program has a version, and requires a command.
 abbrev pub bare : App
@@ -49,10 +65,11 @@ bare = on_top (λ s. record s {
   has_version = true;
 }) (new_app (codes "tracedesk-line"))
 
--- The three commands.
+-- The six commands.
 abbrev pub commands : App
-commands =
-    with_subcommand (with_subcommand (with_subcommand bare serve_shape) state_shape) audit_shape
+commands = with_subcommand (with_subcommand (with_subcommand (with_subcommand
+    (with_subcommand (with_subcommand bare serve_shape) (file_shape (task_name Make))) note_shape)
+    state_shape) (file_shape (task_name Book))) (file_shape (task_name Audit))
 
 -- The text printed if the arguments are no command: help, the version, or a mistake.
 unfoldable pub told_of : List (List ℕ) → Kinds
@@ -103,6 +120,27 @@ AsksForServing words file port connections =
     × Shows MOST_PORT (first_of (codes "port") rows) port
     × Serves (first_of (codes "connections") rows) connections
 
+-- The text of an option is present, and names the kind of this entry.
+abbrev pub ShowsNoted : Option (List ℕ) → Noted → Type 0
+ShowsNoted None noted = ⊥
+ShowsNoted (Some text) Decided = text ≡ codes "decision"
+ShowsNoted (Some text) Held = text ≡ codes "hold"
+ShowsNoted (Some text) Released = text ≡ codes "release"
+
+-- It is absent, or names none of them.
+abbrev pub ShowsNoNoted : Option (List ℕ) → Type 0
+ShowsNoNoted None = ⊤
+ShowsNoNoted (Some text) =
+    (text ≢ codes "decision") × (text ≢ codes "hold") × (text ≢ codes "release")
+
+-- The arguments mean: write what was said into the book of this file.
+abbrev pub AsksForNote : List (List ℕ) → List ℕ → Noted → List ℕ → Type 0
+AsksForNote words file noted told =
+    (rows : List Row) × Names words (codes "note") rows
+    × (first_of (codes "db") rows ≡ Some file)
+    × ShowsNoted (first_of (codes "kind") rows) noted
+    × (first_of (codes "told") rows ≡ Some told)
+
 -- The arguments mean: print whether this machine may work, by the lists of this file.
 abbrev pub AsksForState : List (List ℕ) → List ℕ → Name → Type 0
 AsksForState words file machine =
@@ -110,10 +148,10 @@ AsksForState words file machine =
     × (first_of (codes "db") rows ≡ Some file)
     × ShowsName (first_of (codes "machine") rows) machine
 
--- The arguments mean: check the lists of this file.
-abbrev pub AsksForAudit : List (List ℕ) → List ℕ → Type 0
-AsksForAudit words file =
-    (rows : List Row) × Names words (codes "audit") rows × (first_of (codes "db") rows ≡ Some file)
+-- The arguments mean: do this with the lists of this file.
+abbrev pub AsksForTask : List (List ℕ) → List ℕ → Task → Type 0
+AsksForTask words file task = (rows : List Row) × Names words (task_name task) rows
+    × (first_of (codes "db") rows ≡ Some file)
 
 -- The arguments ask for help or for the version.
 abbrev pub AsksForText : List (List ℕ) → Type 0
@@ -128,20 +166,31 @@ abbrev pub HasBadServing : List Row → Type 0
 HasBadServing rows = ShowsNone MOST_PORT (first_of (codes "port") rows)
     ⊎ ServesNone (first_of (codes "connections") rows) ⊎ (first_of (codes "db") rows ≡ None)
 
+-- A value of `state` is not valid.
+abbrev pub HasBadState : List Row → Type 0
+HasBadState rows =
+    (first_of (codes "db") rows ≡ None) ⊎ ShowsNoName (first_of (codes "machine") rows)
+
+-- A value of `note` is not valid.
+abbrev pub HasBadNote : List Row → Type 0
+HasBadNote rows = ShowsNoNoted (first_of (codes "kind") rows)
+    ⊎ (first_of (codes "told") rows ≡ None) ⊎ (first_of (codes "db") rows ≡ None)
+
 -- The grammar accepts the arguments, but a value of the command is not valid.
 abbrev pub HasBadValue : List (List ℕ) → Type 0
 HasBadValue words =
     (rows : List Row)
     × ((Names words (codes "serve") rows × HasBadServing rows)
-    ⊎ (Names words (codes "state") rows
-    × ((first_of (codes "db") rows ≡ None) ⊎ ShowsNoName (first_of (codes "machine") rows)))
-    ⊎ (Names words (codes "audit") rows × (first_of (codes "db") rows ≡ None)))
+    ⊎ (Names words (codes "state") rows × HasBadState rows)
+    ⊎ (Names words (codes "note") rows × HasBadNote rows)
+    ⊎ ((task : Task) × Names words (task_name task) rows × (first_of (codes "db") rows ≡ None)))
 
--- The command is none of the three.
+-- The command is none of the six.
 abbrev pub IsNoCommand : Option (List ℕ × List Row) → Type 0
 IsNoCommand None = ⊤
 IsNoCommand (Some named) =
-    (named.0 ≢ codes "serve") × (named.0 ≢ codes "state") × (named.0 ≢ codes "audit")
+    (named.0 ≢ codes "serve") × (named.0 ≢ codes "make") × (named.0 ≢ codes "note")
+    × (named.0 ≢ codes "state") × (named.0 ≢ codes "book") × (named.0 ≢ codes "audit")
 
 -- The grammar accepts the arguments, but they name no command.
 abbrev pub NamesNone : List (List ℕ) → Type 0
@@ -155,8 +204,10 @@ AsksForNothing words = IsMistaken words ⊎ NamesNone words ⊎ HasBadValue word
 abbrev pub Asks : List (List ℕ) → LineCommand → Type 0
 Asks words (Serve file port connections) =
     AsksForServing words (string_bytes file) port connections
+Asks words (Note file noted told) =
+    AsksForNote words (string_bytes file) noted (string_bytes told)
 Asks words (State file machine) = AsksForState words (string_bytes file) machine
-Asks words (Audit file) = AsksForAudit words (string_bytes file)
+Asks words (Whole file task) = AsksForTask words (string_bytes file) task
 Asks words (Text text) = AsksForText words
 Asks words (Bad text) = AsksForNothing words
 

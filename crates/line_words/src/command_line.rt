@@ -7,12 +7,13 @@ ghost use Rattle.clap.specs.Simple.{app_of, shape_of, subcommand_rows_of};
 ghost use Rattle.clap.specs.Walk.{first_of, rows_of};
 ghost use Rattle.clap.specs.declared.builder.command.Command.TheViews.{out-Command};
 ghost use Rattle.desk_types.specs.Id.{IsId};
-ghost use Rattle.line_words.specs.CommandLine.{audit_shape, bare, commands, named_by, serve_shape, state_shape, told_of, Asks, IsInRange, Names, Serves, ServesNone, ShowsName, ShowsNoName};
+ghost use Rattle.line_words.specs.CommandLine.{bare, commands, file_shape, named_by, note_shape, serve_shape, state_shape, task_name, told_of, Asks, IsInRange, Names, Serves, ServesNone, ShowsName, ShowsNoName, ShowsNoted, ShowsNoNoted};
 
 use clap::error::ErrorKind;
 use clap::{Arg, ArgMatches};
 use desk_types::{Id, MOST_PORT};
 use desk_words::{number_in, numeral, with_wanted};
+use line_answers::Noted;
 use std::alloc::{AllocError, Global};
 
 /// The meaning of a command line.
@@ -24,14 +25,21 @@ pub enum LineCommand {
         port: u16,
         connections: u32,
     },
+    /// Write what somebody decides, holds or releases into the book. `told` is what was said.
+    Note {
+        file: String,
+        noted: Noted,
+        told: String,
+    },
     /// Print whether a machine may work, and each cause why not.
     State {
         file: String,
         machine: Id,
     },
-    /// Check both lists in a file.
-    Audit {
+    /// Do something with both lists of a file.
+    Whole {
         file: String,
+        task: Task,
     },
     /// Print this text, help or the version, on standard output.
     Text(String),
@@ -39,16 +47,30 @@ pub enum LineCommand {
     Bad(String),
 }
 
+/// What is done with both lists of a file.
+#[derive(Clone, Copy, PartialEq, Eq)]
+pub enum Task {
+    /// Make those that are missing, and count both.
+    Make,
+    /// Print the book.
+    Book,
+    /// Check both, and count them.
+    Audit,
+}
+
 /// The examples and the exit statuses, for the help.
 const NOTES: &str = "\
 Examples:
   tracedesk-line serve --db line.db --port 8080
+  tracedesk-line make --db line.db
+  tracedesk-line note --db line.db --kind hold --told '{\"Hold\":\"lot\",\"Name\":\"L1\",\"By\":\"A. Person\",\"Reason\":\"wrong label\"}'
   tracedesk-line state --db line.db --machine M1
+  tracedesk-line book --db line.db
   tracedesk-line audit --db line.db
 
 Exit status:
-  0  Each request was answered 200 or 202, the state was printed, the audit found nothing wrong, or help or the version was asked for
-  1  Some request was answered otherwise, a connection failed, or no sheet names the machine
+  0  Each request was answered 200 or 202, the entry was written, what was asked for was printed, the audit found nothing wrong, or help or the version was asked for
+  1  Some request was answered otherwise, a connection failed, no entry was written, or no sheet names the machine
   2  The command line asks for nothing that the program does
   3  The line's file was refused, or memory was, outside of a request
   4  Input or output failed, or the port can't be had";
@@ -90,8 +112,11 @@ fn command_of(alloc: Global, matches: &ArgMatches<'_>) -> Result<LineCommand, Al
 {
     match matches.subcommand() {
         Some((name, found)) if name == "serve" => serve_of(alloc, found),
+        Some((name, found)) if name == "make" => task_of(alloc, found, Task::Make),
+        Some((name, found)) if name == "note" => note_of(alloc, found),
         Some((name, found)) if name == "state" => state_of(alloc, found),
-        Some((name, found)) if name == "audit" => audit_of(alloc, found),
+        Some((name, found)) if name == "book" => task_of(alloc, found, Task::Book),
+        Some((name, found)) if name == "audit" => task_of(alloc, found, Task::Audit),
         _ => Ok(LineCommand::Bad(no_command(alloc)?)),
     }
 }
@@ -114,7 +139,29 @@ fn serve_of(alloc: Global, found: &ArgMatches<'_>) -> Result<LineCommand, AllocE
             port: port as u16,
             connections,
         }),
-        None => Ok(LineCommand::Bad(no_value(alloc)?)),
+        None => Ok(LineCommand::Bad(no_value(alloc, "db <FILE>")?)),
+    }
+}
+
+fn note_of(alloc: Global, found: &ArgMatches<'_>) -> Result<LineCommand, AllocError>
+    ensures asks { (words : List (List ℕ))
+        → Names words (codes "note") (rows_of (found_of found.now))
+        → IfOk result (Asks words) }
+    ensures range { IfOk result IsInRange }
+{
+    let Some(noted) = noted_in(found) else {
+        return Ok(LineCommand::Bad(no_kind(alloc)?));
+    };
+    let Some(told) = found.get_str("told") else {
+        return Ok(LineCommand::Bad(no_value(alloc, "told <TEXT>")?));
+    };
+    match found.get_str("db") {
+        Some(file) => Ok(LineCommand::Note {
+            file: String::from_str(alloc, file)?,
+            noted,
+            told: String::from_str(alloc, told)?,
+        }),
+        None => Ok(LineCommand::Bad(no_value(alloc, "db <FILE>")?)),
     }
 }
 
@@ -133,17 +180,18 @@ fn state_of(alloc: Global, found: &ArgMatches<'_>) -> Result<LineCommand, AllocE
     }
 }
 
-fn audit_of(alloc: Global, found: &ArgMatches<'_>) -> Result<LineCommand, AllocError>
+fn task_of(alloc: Global, found: &ArgMatches<'_>, task: Task) -> Result<LineCommand, AllocError>
     ensures asks { (words : List (List ℕ))
-        → Names words (codes "audit") (rows_of (found_of found.now))
+        → Names words (task_name task) (rows_of (found_of found.now))
         → IfOk result (Asks words) }
     ensures range { IfOk result IsInRange }
 {
     match found.get_str("db") {
-        Some(file) => Ok(LineCommand::Audit {
+        Some(file) => Ok(LineCommand::Whole {
             file: String::from_str(alloc, file)?,
+            task,
         }),
-        None => Ok(LineCommand::Bad(no_value(alloc)?)),
+        None => Ok(LineCommand::Bad(no_value(alloc, "db <FILE>")?)),
     }
 }
 
@@ -180,17 +228,52 @@ fn name_of(text: &str) -> Option<Id>
     Id::read(text.as_bytes())
 }
 
+/// Returns what is noted, if the text of the option is the name of such an entry's kind.
+fn noted_in(found: &ArgMatches<'_>) -> Option<Noted>
+    ensures some { IfSome result
+        (ShowsNoted (first_of (codes "kind") (rows_of (found_of found.now)))) }
+    ensures none { IsNone result
+        → ShowsNoNoted (first_of (codes "kind") (rows_of (found_of found.now))) }
+{
+    match found.get_str("kind") {
+        Some(text) => noted_of(text),
+        None => None,
+    }
+}
+
+fn noted_of(text: &str) -> Option<Noted>
+    ensures some { IfSome result (ShowsNoted (Some text.now)) }
+    ensures none { IsNone result → ShowsNoNoted (Some text.now) }
+{
+    if text == "decision" {
+        Some(Noted::Decided)
+    } else if text == "hold" {
+        Some(Noted::Held)
+    } else if text == "release" {
+        Some(Noted::Released)
+    } else {
+        None
+    }
+}
+
 fn no_command(alloc: Global) -> Result<String, AllocError> {
     String::from_str(alloc, "error: a command is required\n")
 }
 
-fn no_value(alloc: Global) -> Result<String, AllocError> {
-    String::from_str(alloc, "error: a value is required for '--db <FILE>'\n")
+fn no_value(alloc: Global, option: &str) -> Result<String, AllocError> {
+    format!(in alloc; "error: a value is required for '--{option}'\n")
 }
 
 fn no_number(alloc: Global, name: &str, most: u32) -> Result<String, AllocError> {
     format!(in alloc;
         "error: invalid value for '--{name} <N>': it is no number from 1 to {most}\n\nFor more information, try '--help'.\n"
+    )
+}
+
+fn no_kind(alloc: Global) -> Result<String, AllocError> {
+    String::from_str(
+        alloc,
+        "error: invalid value for '--kind <KIND>': it is decision, hold or release\n\nFor more information, try '--help'.\n",
     )
 }
 
@@ -206,8 +289,22 @@ fn commands<'a>(alloc: Global) -> Result<clap::Command<'a>, AllocError>
 {
     let program = bare(alloc)?;
     let with_serve = program.subcommand(serve(alloc)?)?;
-    let with_state = with_serve.subcommand(state(alloc)?)?;
-    with_state.subcommand(audit(alloc)?)
+    let make = of_file(
+        alloc,
+        "make",
+        "Make FILE with an empty history and an empty book where it isn't there or is empty, else the book that it lacks, and count both",
+    )?;
+    let with_make = with_serve.subcommand(make)?;
+    let with_note = with_make.subcommand(note(alloc)?)?;
+    let with_state = with_note.subcommand(state(alloc)?)?;
+    let book = of_file(alloc, "book", "Print the book as CSV")?;
+    let with_book = with_state.subcommand(book)?;
+    let audit = of_file(
+        alloc,
+        "audit",
+        "Check the history and the book in a file, and count both",
+    )?;
+    with_book.subcommand(audit)
 }
 
 fn bare<'a>(alloc: Global) -> Result<clap::Command<'a>, AllocError>
@@ -265,12 +362,49 @@ fn state<'a>(alloc: Global) -> Result<clap::Command<'a>, AllocError>
     with_wanted(alloc, kept, "machine", "NAME", "The machine")
 }
 
-fn audit<'a>(alloc: Global) -> Result<clap::Command<'a>, AllocError>
-    ensures shape { IfOk result (λ command. shape_of command ≡ audit_shape) }
+fn note<'a>(alloc: Global) -> Result<clap::Command<'a>, AllocError>
+    ensures shape { IfOk result (λ command. shape_of command ≡ note_shape) }
     ensures local { IfOk result (λ command. (out-Command command).has_globals ≡ false) }
 {
-    let start = clap::Command::new(alloc, "audit")
-        .about("Check the history and the book in a file, and count both")
+    let start = clap::Command::new(alloc, "note")
+        .about(
+            "Write what somebody decides, holds or releases into the book, and print the answer of the line's route",
+        )
+        .after_help(NOTES);
+    let kept = with_wanted(
+        alloc,
+        start,
+        "db",
+        "FILE",
+        "The file of the line, which nobody serves",
+    )?;
+    let named = with_wanted(
+        alloc,
+        kept,
+        "kind",
+        "KIND",
+        "What is said: decision, hold or release",
+    )?;
+    with_wanted(
+        alloc,
+        named,
+        "told",
+        "TEXT",
+        "What is said, as the body of a request",
+    )
+}
+
+/// Returns a command that has a file alone.
+fn of_file<'a>(
+    alloc: Global,
+    name: &'a str,
+    about: &'a str,
+) -> Result<clap::Command<'a>, AllocError>
+    ensures shape { IfOk result (λ command. shape_of command ≡ file_shape name.now) }
+    ensures local { IfOk result (λ command. (out-Command command).has_globals ≡ false) }
+{
+    let start = clap::Command::new(alloc, name)
+        .about(about)
         .after_help(NOTES);
     with_wanted(
         alloc,

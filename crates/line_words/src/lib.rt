@@ -5,4 +5,4 @@
 
 mod command_line;
 
-pub use command_line::{LineCommand, read_words};
+pub use command_line::{LineCommand, Task, read_words};

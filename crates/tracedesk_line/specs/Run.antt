@@ -11,12 +11,16 @@ use Rattle.desk_commands.specs.Connections.{AnswersInTurn}
 use Rattle.desk_commands.specs.Ends.{PrintEnds, ReportEnds, ServingEnds}
 use Rattle.desk_commands.specs.Told.{unavailable_line, Tells, TellsLine}
 use Rattle.line_http.specs.Rule.{line_rule}
-use Rattle.line_commands.specs.Ends.{AnswersState, Counts, HasNoLine, counts_line}
+use Rattle.line_commands.specs.Ends.{AnswersState, Counts, HasNoLine, IsBook, counts_line}
+use Rattle.line_commands.specs.Noting.{AreCounts, HasNoEntry, IsSaid}
 use Rattle.line_commands.specs.Serving.{ClosesLists, HasNoLists, ServesLists}
 use Rattle.line_commands.specs.declared.left.LineLeft.{LineLeft}
-use Rattle.line_words.specs.CommandLine.{Asks, AsksForServing}
+use Rattle.line_answers.specs.declared.noted.Noted.{Noted}
+use Rattle.line_words.specs.CommandLine.{Asks, AsksForNote, AsksForServing, AsksForTask}
 use Rattle.line_words.specs.declared.command_line.LineCommand.{LineCommand}
-use Rattle.line_words.specs.declared.command_line.LineCommand.TheVariants.{Serve, State, Audit, Text, Bad}
+use Rattle.line_words.specs.declared.command_line.LineCommand.TheVariants.{Serve, Note, State, Whole, Text, Bad}
+use Rattle.line_words.specs.declared.command_line.Task.{Task}
+use Rattle.line_words.specs.declared.command_line.Task.TheVariants.{Make, Book, Audit}
 
 -- The counts of the wires have room for a run, and for the line that a failed close prints.
 pub record HaveRoom {W E : Type 0} (output : Wire W) (errors : Wire E) : Type 0 where
@@ -28,7 +32,12 @@ abbrev pub AsksToServe : List (List ℕ) → Type 0
 AsksToServe words = (file : List ℕ) × (port : ℕ) × (connections : ℕ)
     × AsksForServing words file port connections
 
--- What a server left open was closed, after this status. Or a close failed: then the status is 3, and Unavailable was
+-- The arguments ask for a command that may change a file.
+abbrev pub AsksToChange : List (List ℕ) → Type 0
+AsksToChange words = AsksToServe words ⊎ ((file : List ℕ) × AsksForTask words file Make)
+    ⊎ ((file : List ℕ) × (noted : Noted) × (told : List ℕ) × AsksForNote words file noted told)
+
+-- What a command left open was closed, after this status. Or a close failed: then the status is 3, and Unavailable was
 -- printed, unless a fault was before.
 abbrev pub ClosesAs : {D E : Type 0} {g : disk.Ghosts D} → (E → Option (List ℕ)) → ℕ → LineLeft D g
     → Wire E → Wire E → Option (Files D) → ℕ → Type 0
@@ -37,8 +46,39 @@ ClosesAs tells status left told errors' files exit =
     ⊎ (ClosesLists failed left files × (exit ≡ 3)
     × (((status ≡ 3) × (errors' ≡ told)) ⊎ TellsLine tells told errors' unavailable_line))
 
--- A run on files with these contents. `serves` gives the connections on a port, and `writes` and `tells` the bytes sent
--- to a writer, if known.
+-- What is done with both lists of files with these contents. `writes` and `tells` give the bytes sent to a writer, if known.
+module _ {F W E : Type 0} (g : disk.Ghosts F) (image : Image) (writes : W → Option (List ℕ))
+    (tells : E → Option (List ℕ)) (output output' : Wire W) (errors errors' : Wire E)
+    (files : Option (Files F)) (exit : ℕ) where
+  -- What was said was written into the book, or not taken, as the answer says. The file was then closed.
+  abbrev pub EndsNote : Noted → List ℕ → Type 0
+  EndsNote noted body = (left : LineLeft F g) × (status : ℕ) × (told : Wire E)
+      × ReportEnds writes tells output output' errors told
+      (λ answer. ServesLists image left (IsSaid noted body answer))
+      (HasNoEntry image left tells errors told) status
+      × ClosesAs tells status left told errors' files exit
+
+  abbrev pub EndsTask : Task → Type 0
+  -- The lengths of both lists that were there or were made. The file was then closed.
+  EndsTask Make = (left : LineLeft F g) × (status : ℕ) × (told : Wire E)
+      × (commands : ℕ) × (entries : ℕ)
+      × PrintEnds writes tells output output' errors told (counts_line commands entries)
+      (HasNoEntry image left tells errors told) status
+      × ((status ≡ 0) ⊎ (status ≡ 4) → ServesLists image left (AreCounts commands entries))
+      × ClosesAs tells status left told errors' files exit
+  -- The book that the file held, or the fault of a list.
+  EndsTask Book = (text : List ℕ)
+      × PrintEnds writes tells output output' errors errors' text
+      (HasNoLine g image files tells errors errors') exit
+      × ((exit ≡ 0) ⊎ (exit ≡ 4) → IsBook g image files text)
+  -- The lengths of both lists that the file held, or the fault of one.
+  EndsTask Audit =
+      (commands : ℕ) × (entries : ℕ)
+      × PrintEnds writes tells output output' errors errors' (counts_line commands entries)
+      (HasNoLine g image files tells errors errors') exit
+      × ((exit ≡ 0) ⊎ (exit ≡ 4) → Counts g image files commands entries)
+
+-- A run on files with these contents. `serves` gives the connections on a port.
 module _ {F W E : Type 0} (g : disk.Ghosts F) (image : Image) (serves : ℕ → Serving → Type 0)
     (writes : W → Option (List ℕ)) (tells : E → Option (List ℕ)) (words : List (List ℕ))
     (output output' : Wire W) (errors errors' : Wire E) (files : Option (Files F)) (exit : ℕ) where
@@ -57,12 +97,11 @@ module _ {F W E : Type 0} (g : disk.Ghosts F) (image : Image) (serves : ℕ → 
   EndsAs (State file machine) =
       ReportEnds writes tells output output' errors errors' (AnswersState g image files machine)
       (HasNoLine g image files tells errors errors') exit
-  -- The lengths of both lists that the file held, or the fault of one.
-  EndsAs (Audit file) =
-      (commands : ℕ) × (entries : ℕ)
-      × PrintEnds writes tells output output' errors errors' (counts_line commands entries)
-      (HasNoLine g image files tells errors errors') exit
-      × ((exit ≡ 0) ⊎ (exit ≡ 4) → Counts g image files commands entries)
+  EndsAs (Note file noted told) =
+      EndsNote g image writes tells output output' errors errors' files exit noted
+      (string_bytes told)
+  EndsAs (Whole file task) =
+      EndsTask g image writes tells output output' errors errors' files exit task
   -- Help or the version.
   EndsAs (Text text) = (files ≡ None)
       × PrintEnds writes tells output output' errors errors' (string_bytes text) ⊥ exit

@@ -1,4 +1,5 @@
-//! The program that serves a line by both lists of its file, says whether a machine may work, and checks the lists.
+//! The program that serves a line by both lists of its file. Of a file that nobody serves it makes, prints and checks both
+//! lists, writes what somebody says into the book, and says whether a machine may work.
 #![tactic(auto)]
 
 mod run;

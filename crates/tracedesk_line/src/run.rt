@@ -5,12 +5,16 @@ ghost use Rattle.sqlite_wal.specs.Files.{image_at};
 ghost use Rattle.desk_types.specs.Wire.{failures_of};
 ghost use Rattle.desk_commands.specs.Clients.{ServesAt};
 ghost use Rattle.line_commands.specs.Reading.{KeepsFile};
-ghost use Rattle.tracedesk_line.specs.Run.{AsksToServe, ClosesAs, Ends, HaveRoom};
+ghost use Rattle.line_words.specs.declared.command_line.Task.TheVariants.{Make};
+ghost use Rattle.tracedesk_line.specs.Run.{AsksToChange, AsksToServe, ClosesAs, Ends, EndsTask, HaveRoom};
 
 use desk_commands::{Clients, Exit, send_text, tell, unavailable};
 use desk_types::Wire;
-use line_commands::{LineLeft, audit_lists, close_line, serve_in_file, tell_state};
-use line_words::{LineCommand, read_words};
+use line_commands::{
+    LineLeft, audit_lists, close_line, make_in_file, note_in_file, serve_in_file, tell_book,
+    tell_state,
+};
+use line_words::{LineCommand, Task, read_words};
 use sqlite::{FileFrom, Files, Start};
 use sqlite_disk::Disk;
 use std::alloc::AllocError;
@@ -31,10 +35,11 @@ pub fn run<T: Start, C: Clients, W: Write, E: Write>(
         (ServesAt C.Saw clients.old clients.new) W.contents E.contents
         (map string_bytes words.now) output.old output.new errors.old errors.new result.1
         result.0 }
-    // Only `serve` changes a file, and waits for clients.
-    ensures kept { AsksToServe (map string_bytes words.now)
-        ⊎ (KeepsFile ⟦<FileFrom<T> as Disk>⟧ (image_at T.Start) result.1
-        × (clients.new ≡ clients.old)) }
+    // Only `serve`, `make` and `note` change a file.
+    ensures kept { AsksToChange (map string_bytes words.now)
+        ⊎ KeepsFile ⟦<FileFrom<T> as Disk>⟧ (image_at T.Start) result.1 }
+    // Only `serve` waits for clients.
+    ensures clients { AsksToServe (map string_bytes words.now) ⊎ (clients.new ≡ clients.old) }
 {
     match read_words(rt.alloc(), words) {
         Ok(
@@ -59,7 +64,21 @@ pub fn run<T: Start, C: Clients, W: Write, E: Write>(
         Ok(LineCommand::State { file, machine }) => {
             tell_state(rt, file.as_str(), start, &machine, output, errors)
         }
-        Ok(LineCommand::Audit { file }) => audit_lists(rt, file.as_str(), start, output, errors),
+        Ok(LineCommand::Note { file, noted, told }) => {
+            let (status, left) = note_in_file(
+                rt,
+                file.as_str(),
+                start,
+                noted,
+                told.as_str(),
+                output,
+                errors,
+            );
+            close_after(status, left, errors)
+        }
+        Ok(LineCommand::Whole { file, task }) => {
+            do_task(rt, file.as_str(), task, start, output, errors)
+        }
         Ok(LineCommand::Text(text)) => (send_text(text.as_str(), output, errors), None),
         Ok(LineCommand::Bad(text)) => {
             tell(errors, text.as_str());
@@ -69,7 +88,31 @@ pub fn run<T: Start, C: Clients, W: Write, E: Write>(
     }
 }
 
-/// Closes what a server left open, after this status. If the close fails the status is 3 and Unavailable is printed,
+/// Does this with both lists of a file. Returns the exit status, and the file, closed.
+fn do_task<T: Start, W: Write, E: Write>(
+    rt: &HostRuntime,
+    file: &str,
+    task: Task,
+    start: T,
+    output: &mut Wire<W>,
+    errors: &mut Wire<E>,
+) -> (u8, Option<Files<FileFrom<T>>>)
+    requires room { HaveRoom output.old errors.old }
+    ensures ends { EndsTask ⟦<FileFrom<T> as Disk>⟧ (image_at T.Start) W.contents E.contents
+        output.old output.new errors.old errors.new result.1 result.0 task }
+    ensures kept { (task ≡ Make) ⊎ KeepsFile ⟦<FileFrom<T> as Disk>⟧ (image_at T.Start) result.1 }
+{
+    match task {
+        Task::Make => {
+            let (status, left) = make_in_file(rt, file, start, output, errors);
+            close_after(status, left, errors)
+        }
+        Task::Book => tell_book(rt, file, start, output, errors),
+        Task::Audit => audit_lists(rt, file, start, output, errors),
+    }
+}
+
+/// Closes what a command left open, after this status. If the close fails the status is 3 and Unavailable is printed,
 /// unless a fault was printed with status 3 before; the answers remain.
 fn close_after<T: Start, E: Write>(
     status: u8,

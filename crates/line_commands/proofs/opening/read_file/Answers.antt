@@ -5,7 +5,8 @@ use Rattle.line_commands.proofs.opening.read_file.Goals as goal
 
 pub returns-in-Ok-clause-lists : goal.returns-in-Ok-clause-lists
 returns-in-Ok-clause-lists g c =
-    line-at c.read_line-line.result.1 c.read_line-line.result.0 c.in-Ok.ensures.fresh c.read_line-line.ensures.lists
+    line-at c.read_line-line.result.1 c.read_line-line.result.0 c.in-Ok.ensures.fresh c.args.with_rows
+    c.read_line-line.ensures.lists
 
 pub returns-in-Ok-clause-fault : goal.returns-in-Ok-clause-fault
 returns-in-Ok-clause-fault g c =

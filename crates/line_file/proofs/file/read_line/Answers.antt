@@ -8,7 +8,7 @@ pub returns-in-Ok-clause-lists : goal.returns-in-Ok-clause-lists
 returns-in-Ok-clause-lists g c =
     finds-line _ c.in-Ok.conn c.read_connection-line.result.1 c.close_after.result.1
     (λ clean. (c.in-Ok.ensures.opened clean, c.in-Ok.ensures.found clean)) c.read_connection-line.ensures.reads
-    g.D.Desk.Stands c.read_connection-line.result.0 c.close_after.result.0 c.close_after.ensures
+    g.D.Desk.Stands c.args.with_rows c.read_connection-line.result.0 c.close_after.result.0 c.close_after.ensures
     c.read_connection-line.ensures.ok
 
 pub returns-in-Ok-clause-fault : goal.returns-in-Ok-clause-fault

@@ -20,7 +20,7 @@ returns-in-Ok-clause-ok g c =
       L = L;
       own = opens.own;
       tables = λ sound. opens.tables (early sound.0);
-      is = line-before g.D.Desk.Stands L old mid new (λ clean. opens.reads.kept (early clean))
+      is = line-before g.D.Desk.Stands L c.args.with_rows old mid new (λ clean. opens.reads.kept (early clean))
           (λ clean. (c.read_store.ensures.reads.kept clean).was_open) line is;
     })
     (c.read_store.ensures.ok L opens.stands)

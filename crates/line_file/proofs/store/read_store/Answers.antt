@@ -9,13 +9,14 @@ use Rattle.line_file.proofs.store.read_store.Goals as goal
 
 pub returns-clause-ok : goal.returns-clause-ok
 returns-clause-ok g c L stands =
-    let Is = IsLineOf g.D.Desk.Stands L in
+    let Is = IsLineOf g.D.Desk.Stands L c.args.with_rows in
     let old = state_of g.S.Store c.args.store in
     let store = c.read_lists-lists.new.store in
     let now = c.read_lists-lists.ensures.reads.stands L stands in
     let conn = ap (λ (p : _ × _). p.0) c.into_parts-conn.ensures in
     let work = ap (λ (p : _ × _). p.1) c.into_parts-conn.ensures in
-    let line = line-is g.D.Desk.Stands L c.count-commands.result (IsSound (state_of g.S.Store store)) old
+    let line = line-is g.D.Desk.Stands L c.count-commands.result c.args.with_rows (IsSound (state_of g.S.Store store))
+    old
     c.read_lists-lists.result c.into_parts-conn.result.1 (c.read_lists-lists.ensures.ok L stands)
     (subst (λ k. WorksFor g.D.Desk.Stands k L.history) (sym work) now.working)
     (c.count-commands.ensures L stands) in

@@ -1,7 +1,7 @@
 use Rattle.desk_types.proofs.Common.{◌∙◌, ◌≡◌, codes, inr, None, rules, Some, string_bytes, sym}
 use Rattle.clap.proofs.WalkLemmas.{first_value-rows}
 use Rattle.clap.specs.{Matches.first_value, Matches.found_of, Walk.rows_of}
-use Rattle.line_words.proofs.command_line.audit_of.Goals as goal
+use Rattle.line_words.proofs.command_line.task_of.Goals as goal
 
 pub returns-in_ok-from_str-in-Some-clause-asks : goal.returns-in_ok-from_str-in-Some-clause-asks
 returns-in_ok-from_str-in-Some-clause-asks c = λ words names.
@@ -14,4 +14,4 @@ pub returns-in_ok-no_value-in-None-clause-asks : goal.returns-in_ok-no_value-in-
 returns-in_ok-no_value-in-None-clause-asks c = λ words names.
     let found = found_of c.args.found.now in
     let none : first_value found (codes "db") ≡ None = search rules in
-    inr (inr (rows_of found, inr (inr (names, sym (first_value-rows found (codes "db")) ∙ none))))
+    inr (inr (rows_of found, inr (inr (inr (c.args.task, names, sym (first_value-rows found (codes "db")) ∙ none)))))
