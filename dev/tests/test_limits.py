@@ -28,9 +28,8 @@ PLACES = {
         "crates/cfx_profile/src/forms.rt crates/desk_types/src/number.rt docs/files.md"
     ),
     "LONGEST_INPUT": (
-        "README.md crates/chain_files/README.md crates/chain_files/src/listed.rt"
-        " crates/desk_feed/src/feeding.rt crates/http_stream/README.md"
-        " crates/imports/src/fault.rt crates/imports/src/law.rt"
+        "README.md crates/chain_files/README.md crates/desk_feed/src/feeding.rt"
+        " crates/http_stream/README.md crates/imports/src/fault.rt crates/imports/src/law.rt"
         " dev/memory-origins.txt docs/api.md docs/files.md docs/http.md docs/messages.md"
         " docs/operations-faults.md packaging/nginx.conf"
     ),

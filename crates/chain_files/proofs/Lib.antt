@@ -1,4 +1,5 @@
 mod RefusedFiles
+mod RunEnds
 pub mod Answered
 pub mod KeptFiles
 pub mod OneFileMore

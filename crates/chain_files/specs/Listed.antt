@@ -81,6 +81,7 @@ IsBadList file MayFail (Pieces whose) fault = IsBadListOf file MayFail whose fau
 
 abbrev pub list_fault_text : ListFault → List ℕ
 list_fault_text Unread = codes "the list can't be read"
-list_fault_text TooLong = codes "the list is longer than 1048576 bytes"
+list_fault_text TooLong =
+    codes "the list is longer than " ++ decimal LONGEST_INPUT ++ codes " bytes"
 list_fault_text (BadLine line) = codes "line " ++ decimal line ++ codes " is no name of a reel"
 list_fault_text NoMemory = fault_text Unavailable

@@ -1,5 +1,5 @@
 -- The effect of a run of the program.
-use Rattle.std.specs.Prelude.{◌≡◌, ◌⊎◌, ◌++◌, ℕ, true, Option, List, [], codes, length}
+use Rattle.std.specs.Prelude.{◌≡◌, ◌≤◌, ◌⊎◌, ◌++◌, ℕ, true, Option, List, [], codes, length}
 use Rattle.std.specs.Io.KnownBytes.{Appends}
 use Rattle.sqlite_disk.specs.declared.Disk as disk
 use Rattle.sqlite_disk.specs.declared.Files.{Files}
@@ -75,23 +75,6 @@ AnswersFront {E = E} g image closed question links paths writes tells output out
 abbrev pub AsksForText : List (List ℕ) → Type 0
 AsksForText words = AsksForHelp words ⊎ AsksForVersion words
 
--- Status 0 of a recall or a text: the answer was written, or the text that was asked for. No file was opened for a text.
-abbrev pub Done : {D W E : Type 0} → disk.Ghosts D → (List ℕ → ℕ → Image)
-    → (List ℕ → Option (List ℕ)) → List (Files D) → List (List ℕ) → (W → Option (List ℕ))
-    → (E → Option (List ℕ)) → Wire W → Wire W → Wire E → Type 0
-Done g image holds closed words writes tells output output' errors' =
-    ((question : Question) × (links : Links) × (paths : List (List ℕ))
-    × AsksFor holds words question links paths
-    × Answers g image closed question links paths writes tells output output' errors')
-    ⊎ (AsksForText words × (closed ≡ []) × (text : List ℕ)
-    × Appends (writes (inner_of output)) (writes (inner_of output')) text)
-
--- Status 2: the words have no meaning, and standard error says so. No file was opened, and nothing was written.
-abbrev pub Bad : {D W E : Type 0} → List (Files D) → List (List ℕ) → (E → Option (List ℕ))
-    → Wire W → Wire W → Wire E → Wire E → Type 0
-Bad closed words tells output output' errors errors' = MeanNothing words × (closed ≡ [])
-    × (output' ≡ output) × (text : List ℕ) × Tells tells errors errors' text
-
 -- Status 1, 3 or 5: there is no answer.
 abbrev pub IsStopped : ℕ → Type 0
 IsStopped status = (status ≡ 1) ⊎ (status ≡ 3) ⊎ (status ≡ 5)
@@ -106,53 +89,76 @@ StopsAt {E = E} g image closed links paths writes errors' status =
     → IsStop g (placed image paths) links closed place fault))
     ⊎ ((status ≡ 3) × TellsLine writes errors errors' unavailable_line))
 
-abbrev pub Stops : {D E : Type 0} → disk.Ghosts D → (List ℕ → ℕ → Image)
-    → (List ℕ → Option (List ℕ)) → List (Files D) → List (List ℕ) → (E → Option (List ℕ)) → Wire E
-    → ℕ → Type 0
-Stops g image holds closed words writes errors' status =
-    (question : Question) × (links : Links) × (paths : List (List ℕ))
-    × AsksFor holds words question links paths
-    × StopsAt g image closed links paths writes errors' status
-
 -- The line on standard error of a list that was refused, by its path.
 abbrev pub list_line : List ℕ → ListFault → List ℕ
 list_line path fault = codes "tracedesk-chain: " ++ (path ++ (codes ": " ++ list_fault_text fault))
 
--- Status 3: the list that the words name was refused, and standard error names it, and its fault. Or memory was refused. No
--- file was opened.
-abbrev pub RefusesList : {D E : Type 0} → (List ℕ → Option (List ℕ)) → (List ℕ → Type 0)
-    → List (Files D) → List (List ℕ) → (E → Option (List ℕ)) → Wire E → Wire E → ℕ → Type 0
-RefusesList holds may_fail closed words tells errors errors' status = (status ≡ 3) × (closed ≡ [])
-    × (asked : Asked) × (word : List ℕ) × (links : Links) × (paths : List (List ℕ))
-    × AsksOf words asked word links paths
-    × (fault : ListFault) × IsBadList (holds word) (may_fail word) asked fault
-    × (TellsLine tells errors errors' (list_line word fault)
-    ⊎ TellsLine tells errors errors' unavailable_line)
+-- ---- the run
 
--- ---- a comparison
+-- A run, by its words, the files that it closed, and its output and standard error before and after. `image` gives the
+-- contents of a file by its path and place. `holds` gives those of a list, and `may_fail` whether reading it may fail.
+-- `writes` and `tells` are the bytes sent to the output and to standard error, as far as they are known.
+module _ {D W E : Type 0} (g : disk.Ghosts D) (image : List ℕ → ℕ → Image)
+    (holds : List ℕ → Option (List ℕ)) (may_fail : List ℕ → Type 0)
+    (writes : W → Option (List ℕ)) (tells : E → Option (List ℕ)) (words : List (List ℕ))
+    (closed : List (Files D)) (output output' : Wire W) (errors errors' : Wire E) where
+  -- The words ask for a recall, and it was answered in this way.
+  abbrev pub Recalls : (Question → Links → List (List ℕ) → Type 0) → Type 0
+  Recalls Ends = (question : Question) × (links : Links) × (paths : List (List ℕ))
+      × AsksFor holds words question links paths × Ends question links paths
 
--- The words ask for a comparison, which found this.
-abbrev pub Compares : {D : Type 0} → disk.Ghosts D → (List ℕ → ℕ → Image) → List (Files D)
-    → List (List ℕ) → Compared → Type 0
-Compares g image closed words found = (old : List ℕ) × (new : List ℕ)
-    × AsksToCompare words old new × Finds g (placed_both image old new) closed found
+  -- The words ask for a comparison, which found this.
+  abbrev pub Compares : Compared → Type 0
+  Compares found = (old : List ℕ) × (new : List ℕ)
+      × AsksToCompare words old new × Finds g (placed_both image old new) closed found
 
--- Status 1 or 3: the desks differ, or there is no desk.
-abbrev pub Unlike : {W E : Type 0} → (Compared → Type 0) → (W → Option (List ℕ))
-    → (E → Option (List ℕ)) → Wire W → Wire W → Wire E → Wire E → ℕ → Type 0
-Unlike Made writes tells output output' errors errors' status =
-    ((status ≡ 1) × Shows Made writes output output' 1)
-    ⊎ ((status ≡ 3) × NoDesk Made tells output output' errors errors')
+  -- Status 0: the answer was written, the text that was asked for, or that the desks are alike. No file was opened for a
+  -- text.
+  abbrev pub Done : Type 0
+  Done = Recalls (λ question links paths.
+      Answers g image closed question links paths writes tells output output' errors')
+      ⊎ (AsksForText words × (closed ≡ []) × (text : List ℕ)
+      × Appends (writes (inner_of output)) (writes (inner_of output')) text)
+      ⊎ Shows Compares writes output output' 0
 
--- Status 4: the output failed, and standard error says so. Only the first bytes of the text were written.
-abbrev pub Fails : {D W E : Type 0} → disk.Ghosts D → (List ℕ → ℕ → Image)
-    → (List ℕ → Option (List ℕ)) → List (Files D) → List (List ℕ) → (W → Option (List ℕ))
-    → (E → Option (List ℕ)) → Wire W → Wire W → Wire E → Wire E → Type 0
-Fails g image holds closed words writes tells output output' errors errors' =
-    ((question : Question) × (links : Links) × (paths : List (List ℕ))
-    × AsksFor holds words question links paths
-    × AnswersFront g image closed question links paths writes tells output output' errors')
-    ⊎ (((AsksForText words × (closed ≡ []) × (text : List ℕ)
-    × SendsFront (writes (inner_of output)) (writes (inner_of output')) text)
-    ⊎ ShowsFront (Compares g image closed words) writes output output')
-    × TellsUnwritten tells output output' errors errors')
+  -- Status 1, 3 or 5 of a recall: there is no answer, and nothing was written.
+  abbrev pub Stops : ℕ → Type 0
+  Stops status = (output' ≡ output) × Recalls (λ question links paths.
+      StopsAt g image closed links paths tells errors' status)
+
+  -- Status 2: the words have no meaning, and standard error says so. No file was opened, and nothing was written.
+  abbrev pub Bad : Type 0
+  Bad = MeanNothing words × (closed ≡ []) × (output' ≡ output)
+      × (text : List ℕ) × Tells tells errors errors' text
+
+  -- Status 3: the list that the words name was refused, and standard error names it, and its fault. Or memory was refused.
+  -- No file was opened, and nothing was written.
+  abbrev pub RefusesList : Type 0
+  RefusesList = (output' ≡ output) × (closed ≡ [])
+      × (asked : Asked) × (word : List ℕ) × (links : Links) × (paths : List (List ℕ))
+      × AsksOf words asked word links paths
+      × (fault : ListFault) × IsBadList (holds word) (may_fail word) asked fault
+      × (TellsLine tells errors errors' (list_line word fault)
+      ⊎ TellsLine tells errors errors' unavailable_line)
+
+  -- Status 4: the output failed, and standard error says so. Only the first bytes of the text were written.
+  abbrev pub Fails : Type 0
+  Fails = Recalls (λ question links paths.
+      AnswersFront g image closed question links paths writes tells output output' errors')
+      ⊎ (((AsksForText words × (closed ≡ []) × (text : List ℕ)
+      × SendsFront (writes (inner_of output)) (writes (inner_of output')) text)
+      ⊎ ShowsFront Compares writes output output')
+      × TellsUnwritten tells output output' errors errors')
+
+  -- The effect of a run, by its exit status.
+  pub record RunsAs (exit : ℕ) : Type 0 where
+    pub status : exit ≤ 5
+    pub done : exit ≡ 0 → Done
+    -- A desk differs from what the one before it left.
+    pub differs : exit ≡ 1 → Stops exit ⊎ Shows Compares writes output output' exit
+    pub bad : exit ≡ 2 → Bad
+    pub no_desk : exit ≡ 3
+        → Stops exit ⊎ RefusesList ⊎ NoDesk Compares tells output output' errors errors'
+    pub failed : exit ≡ 4 → Fails
+    -- A file wasn't begun from the one before it.
+    pub not_begun : exit ≡ 5 → Stops exit

@@ -44,7 +44,7 @@ impl fmt::Display for ListFault {
     fn fmt<W: fmt::Write>(&self, f: &mut fmt::Formatter<W>) -> fmt::Result {
         match self {
             ListFault::Unread => f.write_str("the list can't be read"),
-            ListFault::TooLong => f.write_str("the list is longer than 1048576 bytes"),
+            ListFault::TooLong => write!(f, "the list is longer than {LONGEST_INPUT} bytes"),
             ListFault::BadLine(line) => write!(f, "line {line} is no name of a reel"),
             ListFault::NoMemory => f.write_str("Unavailable"),
         }

@@ -7,11 +7,10 @@ ghost use Rattle.desk_answers.specs.Sent.{SendsFront};
 ghost use Rattle.desk_commands.specs.Told.{unavailable_line, TellsLine, TellsUnwritten};
 ghost use Rattle.desk_commands.specs.Wires.{HaveFewFailures};
 ghost use Rattle.trace_reports.specs.Csv.{HasWritten};
-ghost use Rattle.chain_files.specs.Compared.{Shows};
 ghost use Rattle.chain_files.specs.Files.{files_in};
 ghost use Rattle.chain_files.specs.Kept.{AreKept, KeepsNamed};
 ghost use Rattle.chain_files.specs.Stops.{status_of, stop_line, without_marks_line};
-ghost use Rattle.chain_files.specs.Whole.{Answers, AnswersFront, Bad, Compares, Done, Fails, IsStopped, RefusesList, SaysLinks, Stops, StopsAt, Unlike, list_line};
+ghost use Rattle.chain_files.specs.Whole.{Answers, AnswersFront, IsStopped, RunsAs, SaysLinks, StopsAt, list_line};
 
 use crate::chain::{Fault, Stopped, recall_files};
 use crate::closed::ClosedChain;
@@ -41,32 +40,13 @@ pub fn program<'a, O: Opener<'a> + Folder, W: Write, E: Write>(
     errors: &mut Wire<E>,
 ) -> (u8, ClosedChain<O::File>)
     requires few { HaveFewFailures output.old errors.old }
-    ensures ends { (result.0 ≤ 5)
-        × KeepsNamed ⟦<O::File as Disk>⟧ (O.image opener.old) (O.opened opener.old)
+    // One of the ways to end, which `specs/Whole.antt` lists by the exit status.
+    ensures runs { RunsAs ⟦<O::File as Disk>⟧ (O.image opener.old) (O.holds opener.old)
+        (O.may_fail opener.old) W.contents E.contents (map string_bytes words.now)
+        (files_in result.1) output.old output.new errors.old errors.new result.0 }
+    // No file is opened that the command line doesn't name, and each is closed as it was.
+    ensures kept { KeepsNamed ⟦<O::File as Disk>⟧ (O.image opener.old) (O.opened opener.old)
         (O.opened opener.new) (files_in result.1) (map string_bytes words.now) }
-    ensures done { result.0 ≡ 0
-        → Done ⟦<O::File as Disk>⟧ (O.image opener.old) (O.holds opener.old) (files_in result.1)
-        (map string_bytes words.now) W.contents E.contents output.old output.new errors.new
-        ⊎ Shows
-        (Compares ⟦<O::File as Disk>⟧ (O.image opener.old) (files_in result.1)
-        (map string_bytes words.now)) W.contents output.old output.new 0 }
-    ensures stopped { IsStopped result.0
-        → (output.new ≡ output.old)
-        × (Stops ⟦<O::File as Disk>⟧ (O.image opener.old) (O.holds opener.old) (files_in result.1)
-        (map string_bytes words.now) E.contents errors.new result.0
-        ⊎ RefusesList (O.holds opener.old) (O.may_fail opener.old) (files_in result.1)
-        (map string_bytes words.now) E.contents errors.old errors.new result.0)
-        ⊎ Unlike
-        (Compares ⟦<O::File as Disk>⟧ (O.image opener.old) (files_in result.1)
-        (map string_bytes words.now)) W.contents E.contents output.old output.new errors.old
-        errors.new result.0 }
-    ensures bad { result.0 ≡ 2
-        → Bad (files_in result.1) (map string_bytes words.now) E.contents output.old output.new
-        errors.old errors.new }
-    ensures failed { result.0 ≡ 4
-        → Fails ⟦<O::File as Disk>⟧ (O.image opener.old) (O.holds opener.old) (files_in result.1)
-        (map string_bytes words.now) W.contents E.contents output.old output.new errors.old
-        errors.new }
 {
     match read_words(words) {
         ChainCommand::Recall {
