@@ -194,9 +194,7 @@ def test_what_somebody_says_is_an_entry(files: Files) -> None:
         ),
     ],
 )
-def test_what_is_not_taken_writes_no_entry(
-    files: Files, kind: str, told: str, answer: str
-) -> None:
+def test_what_is_not_taken_writes_no_entry(files: Files, kind: str, told: str, answer: str) -> None:
     files.feed(STARTED)
     assert files.note(kind, told) == (1, answer + "\n", "")
     assert files.audit() == (0, "lawful 6 book 0\n", "")

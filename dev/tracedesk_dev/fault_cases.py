@@ -181,8 +181,6 @@ WAITING = b"n,after,kind,source,uid,machine,slot,board,reel,word,of,told,state\n
         (3, b"unread", b",,,,,,EnvelopeMember,0", BESIDE[3][1], b"undecided"),
     )
 )
-HOLDING = ("--kind", "hold", "--told", (b'{"Hold":"reel","Name":"K1",' + SAID).decode())
-HELD = [b'{"Answer":"Held","Entry":1}\n']
 REPORTS = {
     "slots": (
         "/slots?machine=M",
@@ -215,19 +213,6 @@ def reporting(name: str) -> Callable[[argparse.Namespace, str], Story]:
     )
 
 
-def of_line(*words: str, wanted: Sequence[bytes]) -> Callable[[argparse.Namespace, str], Story]:
-    """A command of `tracedesk-line` on a file that nobody serves, once for each answer."""
-
-    def made(asked: argparse.Namespace, case: str) -> Story:
-        files, parts = fed_files(asked, case), [b""] * len(wanted)
-        all_words = [words[0], "--db", "desk", *words[1:]]
-        it = Command(asked, f"line {words[0]} {case}", all_words, parts, files, wanted=list(wanted))
-        it.program = asked.line
-        return it
-
-    return made
-
-
 def serving(*targets: str) -> Callable[[argparse.Namespace, str], Story]:
     return lambda asked, case: served(asked, case, targets)
 
@@ -251,9 +236,6 @@ STORIES = (
     ("serve", "first_run", serving("/slots?machine=M")),
     ("serve", MOVED, serving(*TARGETS)),
     ("line serve", "first_run", heard),
-    ("line make", "first_run", of_line("make", wanted=[b"lawful 5 book 0\n"])),
-    ("line note", "first_run", of_line("note", *HOLDING, wanted=HELD)),
-    ("line book", "first_run", of_line("book", wanted=[WAITING.split(b"\n", 1)[0] + b"\n"])),
 )
 
 
