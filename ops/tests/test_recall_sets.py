@@ -2,28 +2,19 @@
 from __future__ import annotations
 
 import json
-import os
 import pathlib
 import shutil
-from typing import Iterator
 
 import pytest
 from lab import files, messages, small
 from lab.line import Line, NewLine, table
 from lab.recalls import key_in, signers_of
 from lab.tools import Ended, Word, run_tool
-from tracedesk_ops import attributes, entries, firstlook, plant
+from tracedesk_ops import entries
 from tracedesk_ops.recalls import sets
 from tracedesk_ops.recalls.surveyed import Surveyed
 
 pytestmark = pytest.mark.xdist_group("recall_sets")
-
-NOBODY = (65534, 65534)
-ATTRIBUTES = """reel,part,date_code,supplier,colour
-K-1,CAP,2614,Maker One,red
-K-3,CAP,2609,Maker Two,red
-K-4,CAP,2614,Maker Two,red
-"""
 
 NO_FILES = Surveyed([], pathlib.Path())
 RECEIVED = "INSERT INTO reel VALUES ('K-1', 'CAP', ?, '1', 0, 5, 0, 0, 5, 0, -1, 0)"
@@ -34,27 +25,12 @@ def line(small_line: Line) -> Line:
     return small_line
 
 
-@pytest.fixture
-def book(line: Line, folder: pathlib.Path) -> Iterator[pathlib.Path]:
-    """The attributes of some reels, in a file; the line's book is taken away afterwards."""
-    file = folder / "delivery.csv"
-    file.write_text(ATTRIBUTES)
-    yield file
-    (line.archive / attributes.FILE_NAME).unlink(missing_ok=True)
-    attributes.BOOK.paths(line.archive)[1].unlink(missing_ok=True)
-
-
 def recall(line: Line, *words: Word) -> Ended:
     return run_tool("recall", *words, *line.recall_words())
 
 
 def boards(done: Ended) -> dict[str, dict[str, str]]:
     return {row["board"]: row for row in table(done.out)}
-
-
-def give(line: Line, file: pathlib.Path) -> Ended:
-    line.archive.parent.joinpath("untraced").mkdir(exist_ok=True)
-    return run_tool("reels", "add", file, "--by", "erp", "--line", line.folder)
 
 
 # --- Lots
@@ -97,21 +73,6 @@ def test_the_evidence_of_a_set_names_its_reels(line: Line, folder: pathlib.Path)
 # --- Attributes
 
 
-def test_the_boards_of_a_date_code(line: Line, book: pathlib.Path) -> None:
-    give(line, book).expect(0, "3 of 3 reels")
-    done = recall(line, "where", "date_code=2614", "part=CAP").expect()
-    assert [*boards(done)] == ["SN-1", "SN-4"]
-    done = recall(line, "where", "date_code=2614", "part=CAP", "supplier=Maker Two").expect()
-    assert [*boards(done)] == ["SN-4"]
-    recall(line, "where", "date_code=2699", "part=CAP").expect(1, "no reel is one of")
-
-
-def test_a_reel_whose_attributes_nobody_gave_is_named(line: Line, book: pathlib.Path) -> None:
-    give(line, book).expect()
-    done = recall(line, "where", "date_code=2614")
-    assert [*boards(done.expect(3, "1 reels aren't known", "K-2"))] == ["SN-1", "SN-4"]
-
-
 def test_a_mirror_without_such_a_reel_is_not_complete(line: Line, folder: pathlib.Path) -> None:
     """One may have been received since."""
     shutil.copytree(line.archive, folder / "L1/sealed")
@@ -119,7 +80,7 @@ def test_a_mirror_without_such_a_reel_is_not_complete(line: Line, folder: pathli
     done.expect(3, "NOT ASKED: L1: ", "has no desk", "no reel is one of")
 
 
-def test_without_a_book_no_attribute_is_known(line: Line) -> None:
+def test_reels_whose_receipts_say_no_attribute_are_named(line: Line) -> None:
     recall(line, "where", "date_code=2614", "part=CAP").expect(3, "K-1, K-3, K-4")
 
 
@@ -152,23 +113,6 @@ def test_a_name_of_two_receipts_is_named(
     assert asked.faults[0].startswith("the name K-1 is of CAP, lot L-77 and of CAP, lot L-99")
 
 
-def test_each_lines_book_tells_of_its_own_reel_of_a_name(folder: pathlib.Path) -> None:
-    """Two lines have a reel K-1 each, of two lots."""
-    lines, known = [firstlook.Line(name, folder / name) for name in ("L1", "L2")], sets.Known([])
-    known.cards["K-1"] = {attributes.Reel("K-1", "CAP", lot): [] for lot in ("A", "B")}
-    for line, code in zip(lines, ("2614", "2609")):
-        for name in ("sealed", "untraced"):
-            (line.folder / name).mkdir(parents=True)
-        its = attributes.Reel("K-1", date_code=code)
-        attributes.add(line.folder / "sealed", [its], "2026-03-02T06:00:00Z", "erp")
-    for code, reels in (("2614", ("K-1",)), ("2609", ("K-1",)), ("2600", ())):
-        meant = sets.where(sets.terms_of([f"date_code={code}"]), known, lines)
-        assert meant.question.reels == reels
-        assert ["is of CAP, lot A and of CAP, lot B" in it for it in meant.faults] == [True] * len(
-            reels
-        )
-
-
 BOOKED = "INSERT INTO book VALUES (?, 0, 'attribute', 'S', 'u', '', '', '', 'K-1', ?, 0, ?)"
 
 
@@ -184,11 +128,11 @@ def received(file: pathlib.Path, lot: str, **more: str) -> pathlib.Path:
 
 def reels_where(folder: pathlib.Path, *terms: str) -> tuple[tuple[str, ...], list[str]]:
     """The reels that a recall with these terms asks for, by all files, and what is wrong."""
-    known, line = sets.Known([]), firstlook.Line("L1", folder / "L1")
+    known = sets.Known([])
     for file in sorted(folder.glob("desk*")):
         with files.opened(file) as database:
             known.read(database)
-    meant = sets.where(sets.terms_of(terms), known, [line])
+    meant = sets.where(sets.terms_of(terms), known)
     return meant.question.reels, meant.faults
 
 
@@ -201,16 +145,6 @@ def test_a_receipt_says_the_attributes_of_its_reel(folder: pathlib.Path) -> None
     assert reels_where(folder, *all_of_it, "lot=L-77") == (("K-1",), [])
     for other in ("date_code=2609", "supplier=Maker Two"):
         assert reels_where(folder, other) == ((), [])
-
-
-def test_what_somebody_gave_counts_before_the_receipt(folder: pathlib.Path) -> None:
-    received(folder / "desk1", "L-77", DateCode="2614", Order="PO-7")
-    for name in ("sealed", "untraced"):
-        (folder / "L1" / name).mkdir(parents=True)
-    its = attributes.Reel("K-1", date_code="2615")
-    attributes.add(folder / "L1/sealed", [its], "2026-03-02T06:00:00Z", "erp")
-    assert reels_where(folder, "date_code=2614") == ((), [])
-    assert reels_where(folder, "date_code=2615", "order=PO-7") == (("K-1",), [])
 
 
 def test_two_receipts_of_a_name_have_their_own_attributes(folder: pathlib.Path) -> None:
@@ -230,85 +164,6 @@ def test_a_receipt_of_a_running_line_says_them(line: Line) -> None:
     line.accept(small.say("ReelReceived", "received-8", Reel="K-8", **its))
     done = recall(line, "where", "date_code=2650", "lot=L-8", "--show", "reels")
     assert [row["reel"] for row in table(done.out)] == ["K-8"]
-
-
-def test_a_later_row_takes_the_place_of_the_one_before(line: Line, book: pathlib.Path) -> None:
-    give(line, book).expect()
-    give(line, book).expect(0, "0 of 3 reels")
-    book.write_text("reel,part,date_code\nK-3,CAP,2614\n")
-    give(line, book).expect(0, "1 of 1 reels")
-    assert len((line.archive / "reels.csv").read_text().splitlines()) == 5
-    done = run_tool("reels", "list", "date_code=2614", "--line", line.folder).expect()
-    assert [row["reel"] for row in table(done.out)] == ["K-1", "K-3", "K-4"]
-
-
-@pytest.mark.root
-@pytest.mark.gate
-def test_roots_book_belongs_to_the_line(folder: pathlib.Path) -> None:
-    """Else the recalls of the page, which are run by the line's user, could not read it."""
-    archive, inbox = folder / "sealed", folder / "untraced"
-    for path in (archive, inbox):
-        path.mkdir()
-        os.chown(path, *NOBODY)
-    file = folder / "own.csv"
-    file.write_text(ATTRIBUTES)
-    file.chmod(0o600)
-    run_tool("reels", "add", file, "--by", "erp", "--line", archive.parent).expect()
-    made = (archive / attributes.FILE_NAME, inbox / attributes.NOTE)
-    assert [(path.stat().st_uid, path.stat().st_gid) for path in made] == [NOBODY, NOBODY]
-
-
-BAD_FILES = (
-    "part\nCAP\n",
-    "reel,part\nK-1\n",
-    "reel,part\nK\x07,CAP\n",
-    f"reel,part\nK,{'x' * 201}\n",
-)
-
-
-@pytest.mark.parametrize("text", BAD_FILES, ids=range(len(BAD_FILES)))
-def test_a_file_that_is_no_table_of_reels_gives_nothing(
-    line: Line, book: pathlib.Path, text: str
-) -> None:
-    book.write_text(text)
-    give(line, book).expect(2)
-    assert not (line.archive / attributes.FILE_NAME).exists()
-
-
-def damage(kind: str, line: Line, older: bytes) -> None:
-    book, head = line.archive / attributes.FILE_NAME, attributes.BOOK.paths(line.archive)[1]
-    if kind == "changed":
-        book.write_bytes(book.read_bytes().replace(b"2609", b"2614"))
-    if kind == "gone":
-        book.unlink()
-    if kind == "older":
-        book.write_bytes(older)
-    if kind == "head is gone":
-        head.unlink()
-
-
-@pytest.mark.parametrize("kind", ["changed", "gone", "older", "head is gone"])
-def test_a_book_that_is_not_as_it_was_written_is_noticed(
-    line: Line, book: pathlib.Path, kind: str
-) -> None:
-    give(line, book).expect()
-    older = (line.archive / attributes.FILE_NAME).read_bytes()
-    book.write_text("reel,date_code\nK-2,2614\n")
-    give(line, book).expect()
-    damage(kind, line, older)
-    recall(line, "where", "date_code=2614").expect(3, "NOT ASKED", "reels.")
-    give(line, book).expect(3)
-
-
-def test_a_row_that_was_cut_off_is_none(line: Line, book: pathlib.Path) -> None:
-    give(line, book).expect()
-    file = line.archive / attributes.FILE_NAME
-    whole = file.read_bytes()
-    file.write_bytes(whole + b"K-2,RES,24")
-    assert len(attributes.read(line.archive)) == 3
-    book.write_text("reel,date_code\nK-2,2614\n")
-    give(line, book).expect()
-    assert file.read_bytes().startswith(whole) and len(attributes.read(line.archive)) == 4
 
 
 BAD_WORDS = ("where", "where date=2614", "where date_code", "board A B", "reel K-1 --part CAP")
@@ -342,8 +197,3 @@ def test_a_reel_that_moved_is_followed_under_its_other_name(
         assert found == ["L1-1", "L2-1", "L2-2"]
     alone = run_tool("recall", "reel", "K-3b", *lines[1].recall_words())
     alone.expect(3, "K-3b came from a line that is not asked")
-
-
-def test_the_kinds_of_a_row_are_those_of_the_book() -> None:
-    assert attributes.Reel._fields == attributes.ASKED
-    assert issubclass(plant.Fault, Exception)

@@ -27,8 +27,8 @@ def test_each_record_has_one_row_wherever_collect_is_killed(folder: pathlib.Path
         if not untraced.read(archive).faults:
             assert boards(archive) == ALL, f"before write {number}"
         collecting.collect(archive)
-        rows, faults = untraced.rows_of(archive)
-        assert (sorted(untraced.said(row)[4] for row in rows), faults) == (ALL, [])
+        found = untraced.rows_in(archive)
+        assert (sorted(untraced.said(it)[4] for it in found.records), found.fault) == (ALL, "")
         if len(writes) < number:
             return
     raise AssertionError("it never ends")
@@ -57,7 +57,7 @@ def test_of_two_decisions_of_one_second_the_board_stays_in_recalls(
                 collecting.decide(archive, its[number % 3], f"P{number}", word, "seen")
     waiting = untraced.decisions(untraced.read(archive).records)
     collecting.collect(archive)
-    assert waiting == untraced.decisions(untraced.rows_of(archive)[0])
+    assert waiting == untraced.decisions(untraced.rows_in(archive).records)
     assert [untraced.is_shipped(waiting[it]) for it in its] == [True] * 3
 
 
@@ -165,9 +165,8 @@ def test_a_link_or_a_pipe_in_the_inbox_is_no_record(archive: pathlib.Path) -> No
     (archive / "elsewhere").write_bytes(text)
     (inbox / f"{name}.json").symlink_to(archive / "elsewhere")
     os.mkfifo(inbox / f"{'0' * 32}.json")
-    assert len(collecting.collect(archive)[2]) == 2 and len(untraced.rows_of(archive)[0]) == len(
-        ALL
-    )
+    assert len(collecting.collect(archive)[2]) == 2
+    assert len(untraced.rows_in(archive).records) == len(ALL)
 
 
 # --- Senders

@@ -15,7 +15,7 @@ import sqlite3
 from collections.abc import Callable, Iterator, Sequence
 from typing import NamedTuple
 
-from tracedesk_ops import copies, files, heads, lineage, sealed
+from tracedesk_ops import copies, files, lineage, sealed
 from tracedesk_ops.catalogue import RUNNING, Archive
 from tracedesk_ops.line import LineFolder
 from tracedesk_ops.sealed import FilesFault, Sealed
@@ -137,30 +137,3 @@ def row_of(file: Sealed, name: str) -> Archive:
     path = file.path if file.path.name == RUNNING else None
     its = file.path.name, file.sha256, name, first or 0, last or 0, file.commands
     return Archive(*its, path)
-
-
-def recorded(line: LineFolder, desks: Sequence[Path]) -> list[str]:
-    """The heads of books that the line's desks have recorded, in all of its files and these copies
-    of its desk: a roll-over carries the newest head of a book alone, and what was taken off may
-    have a newer one.
-    """
-    found: list[str] = []
-    try:
-        for path in (*(sealed.paths_in(line.sealed) if line.sealed.is_dir() else ()), *desks):
-            with sealed.opened(path) as database:
-                found += heads.all_recorded_in(database)
-        for path in sealed.paths_in(line.lost) if line.lost.is_dir() else ():
-            with contextlib.suppress(sqlite3.Error), sealed.opened(path) as database:
-                found += heads.all_recorded_in(database)  # one that isn't a desk is a fault anyway
-    except (OSError, sqlite3.Error) as fault:
-        raise FilesFault(f"{line.path} can't be read: {fault}") from fault
-    return found
-
-
-def recorded_now(line: LineFolder) -> list[str]:
-    """The same of all files of the line, and of its desk as it is now."""
-    try:
-        with desk_now(line.desk) as desk:
-            return recorded(line, [desk.path] if desk else [])
-    except (OSError, sqlite3.Error, copies.Changing) as fault:
-        raise FilesFault(f"{line.path} can't be read: {fault}") from fault

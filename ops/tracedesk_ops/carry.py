@@ -229,7 +229,7 @@ def begun(
     archive: DeskTables, checksum: str, at: int | None = None
 ) -> tuple[list[str | Setup], Carrier]:
     """The messages of a new desk that begins where an archived one with this checksum ended, and
-    who tells what is not in them. It has the archived desk's newest heads."""
+    who tells what is not in them. It has the archived desk's newest head."""
     if archive.minute is None:
         raise NotCarried("it has accepted no command, so there is nothing to carry over")
     end = archive.minute if at is None else min(at, archive.minute)

@@ -24,7 +24,6 @@ from tracedesk_ops.sealed import FilesFault, Sealed
 Path = pathlib.Path
 
 
-BOOKS, NOTES = ("untraced.csv", "reels.csv"), ("collected.json", "reels.json")
 ASIDE = "aside"  # the folder of an archive of 1.0.0 for what restores had put aside
 
 
@@ -219,7 +218,7 @@ def take_over(line: LineFolder, folder: Path, audit: sealing.Audit) -> Sealed:
             sealing.put(line, shutil.copyfile(path, work / "archive"))
         for path in aside:
             keep_in_lost(line, whole_copy(path, work))
-        take_books(line, folder)
+        take_book(line, folder)
         if plant.is_open(folder / "desk"):
             raise NotChanged(f"a run has {folder}/desk open: stop it, and ask again")
         sealing.copied(folder / "desk", work / "desk", audit)
@@ -235,14 +234,13 @@ def take_over(line: LineFolder, folder: Path, audit: sealing.Audit) -> Sealed:
         return made
 
 
-def take_books(line: LineFolder, folder: Path) -> None:
-    """Copies the books of an older folder, and the notes of how many rows they have."""
-    pairs = [(folder / "archive" / name, line.sealed / name) for name in BOOKS]
-    pairs += [(folder / "untraced" / name, line.path / "untraced" / name) for name in NOTES]
-    for old, new in pairs:
-        if old.is_file() and not new.exists():
+def take_book(line: LineFolder, folder: Path) -> None:
+    """Copies the untraced work of an older folder, and the note of how many rows that has."""
+    for name in ("archive/untraced.csv", "untraced/collected.json"):
+        new = line.path / name.replace("archive", line.sealed.name)
+        if (folder / name).is_file() and not new.exists():
             new.parent.mkdir(exist_ok=True)
-            shutil.copyfile(old, new)
+            shutil.copyfile(folder / name, new)
 
 
 def files_below(archive: Path) -> list[Path]:

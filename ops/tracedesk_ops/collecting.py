@@ -24,14 +24,14 @@ def collect(archive: pathlib.Path) -> tuple[list[untraced.Record], int, list[str
     """
     archive = pathlib.Path(archive)
     with files.held(archive):
-        found, inbox = untraced.BOOK.to_extend(archive), untraced.inbox_of(archive)
+        found, inbox = untraced.to_extend(archive), untraced.inbox_of(archive)
         waiting = untraced.waiting_in(inbox)
-        known = {it.id for it in found.values}
+        known = {it.id for it in found.records}
         new = [it for name, it in waiting.records.items() if name not in known]
-        found = untraced.BOOK.extend(archive, found, new)
+        records = untraced.extend(archive, found, new)
         for file in waiting.files:
             file.unlink(missing_ok=True)
-        return found.values, len(new), [*waiting.faults, *inboxes.limit(inbox)]
+        return records, len(new), [*waiting.faults, *inboxes.limit(inbox)]
 
 
 def place_of(inbox: pathlib.Path, record: untraced.Record) -> pathlib.Path:

@@ -103,8 +103,7 @@ class DeskTables:
             self.sheets.setdefault((product, machine), []).append(row)
         self.selected = dict(rows("SELECT machine, product FROM selected ORDER BY machine"))
         self.read_reels(rows)
-        recorded = [heads.recorded_in(database, kind) for kind in model.BOOKS]
-        self.heads = [uids[-1] for uids in recorded if uids]  # the newest of each book
+        self.heads = heads.recorded_in(database)[-1:]  # the newest one
         self.numbers = dict(rows(OWN, model.SOURCE))  # of its heads, by their UniqueIDs
         begun = sealed.begun_with(database, sealed.begun_from(database), "main")
         self.known = known(database, begun)

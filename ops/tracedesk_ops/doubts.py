@@ -17,7 +17,7 @@ from collections.abc import Callable, Iterator
 from typing import NamedTuple
 
 from tracedesk import records
-from tracedesk_ops import around, books, catalogue, contradictions, files, model, splices
+from tracedesk_ops import catalogue, contradictions, files, heads, model, splices
 from tracedesk_ops import untraced
 from tracedesk_ops.firstlook import Question
 from tracedesk_ops.line import LineFolder
@@ -71,8 +71,8 @@ def look(
         pieces = [*placed(tapes, files), *told(tapes, works, differing, decided)]
         if question and question.within:
             pieces += splices.near(tapes, files, tapes.asked(question), question.within)
-        recorded = around.recorded(LineFolder(folder), [it.path for it in archives if it.path])
-        faults += books.lacking(LineFolder(folder), [untraced.BOOK], recorded)
+        recorded = heads.recorded(LineFolder(folder), [it.path for it in archives if it.path])
+        faults += heads.lacking(LineFolder(folder), recorded)
     except (catalogue.CatalogueError, FilesFault, OSError, sqlite3.Error) as fault:
         faults.append(f"{folder}: whether pieces may be of other reels isn't known: {fault}")
     return Doubts(

@@ -9,19 +9,27 @@ Senders put records into the line's folder `untraced`. `collect` appends each of
     id,kind,at,machine,board,what,refusal,place,source,by,of,became,reason,record,chain
 
 `record` is the whole record as its sender wrote it, and `id` the first 32 digits of its SHA-256;
-the columns before it are for readers. It is a book: book.py.
+the columns before it are for readers. `chain` is the SHA-256 of the record and of the chain of the
+row before it. How many rows there are, and the last chain, are noted in the inbox, and the line's
+desk records that chain (heads.py). So a file that was cut, replaced by an older one, or is gone is
+noticed, also if its note went with it. A file without its note is never taken for whole: the note
+is there before the first row.
 """
 from __future__ import annotations
 
+import csv
 import hashlib
 import json
+import os
 import pathlib
-from collections.abc import Iterable
+from collections.abc import Iterable, Sequence
 from typing import Any, NamedTuple
 
 from tracedesk import records as sent
 from tracedesk.limits import LONGEST_INPUT
-from tracedesk_ops import book, catalogue, files, inboxes, model
+from tracedesk_ops import catalogue, files, inboxes, model, plant
+
+Path = pathlib.Path
 
 FILE_NAME, COLLECTED, STATUS = "untraced.csv", "collected.json", "untraced.json"
 HEADER = tuple(
@@ -30,6 +38,7 @@ HEADER = tuple(
 # columns of tables for readers
 WORK = ("at", "machine", "board", "work", "refusal", "place", "source")
 OUTCOME = ("became", "decided_by", "reason")
+BEGIN = "0" * 64  # the chain of no row
 LOST = "lost"  # in place of an id: the rows that no copy has
 SCRAPPED = "scrapped"  # what became of a board: nothing else takes it out of recalls
 HANDLING = ("MaterialsLoaded", "MaterialsSpliced", "MaterialsUnloaded")
@@ -84,7 +93,7 @@ def has_texts(told: Any, kind: str, *names: str) -> bool:
     return is_kind and all(isinstance(told.get(it), str) for it in names)
 
 
-def inbox_of(archive: pathlib.Path) -> pathlib.Path:
+def inbox_of(archive: Path) -> Path:
     """The inbox of the line whose sealed files are in that folder."""
     return archive.with_name(model.INBOX)
 
@@ -170,39 +179,162 @@ def is_read_back(record: Record) -> bool:
     return [*catalogue.csv_rows(catalogue.csv_text(rows))] == rows
 
 
-BOOK: book.Form[Record] = book.Form(
-    FILE_NAME,
-    COLLECTED,
-    "untraced",
-    HEADER,
-    row_of,
-    lambda row: record_of(row[-1].encode() + b"\n"),
-    lambda record: f"{record.text}\n",
-)
+# --- The file
+
+
+class Rows(NamedTuple):
+    """The records of the file, their chains, and what is wrong with it; nothing is empty."""
+
+    records: list[Record]
+    chains: list[str]
+    fault: str = ""
+
+
+def paths(archive: Path) -> tuple[Path, Path]:
+    """The file, and its note."""
+    return archive / FILE_NAME, inbox_of(archive) / COLLECTED
+
+
+def chain(before: str, record: Record) -> str:
+    return hashlib.sha256(f"{before}\n{record.text}\n".encode()).hexdigest()
+
+
+def rows_in(archive: Path) -> Rows:
+    """The rows of a line's file, if they are those that its note names."""
+    path, note = paths(archive)
+    try:
+        count, last = noted(archive)
+        found = rows_there(archive)
+    except (OSError, ValueError) as fault:
+        name = getattr(fault, "filename", None) or note
+        return Rows([], [], f"{name}: it can't be read, so rows may be missing: {fault}")
+    if not found.fault and [BEGIN, *found.chains][count : count + 1] != [last]:
+        why = "lacks rows, or is another file" if path.exists() else "is gone"
+        wrong = f"it {why}: {note} names {count} rows and another last one. Take it from a mirror"
+        return found._replace(fault=f"{path}: {wrong}")
+    if not found.fault and found.records and not note.exists():
+        wrong = f"it is gone, so rows of {path} may be missing. Take it from a mirror"
+        return found._replace(fault=f"{note}: {wrong}")
+    return found
+
+
+def noted(archive: Path) -> tuple[int, str]:
+    """How many rows the file has, and the chain of the last one."""
+    try:
+        told = json.loads(paths(archive)[1].read_text(encoding="ascii"))
+        return int(told["Rows"]), str(told["Chain"])
+    except FileNotFoundError:
+        return 0, BEGIN
+    except (KeyError, TypeError, UnicodeDecodeError) as fault:
+        raise ValueError(f"it is damaged: {fault!r}") from fault
+
+
+def rows_there(archive: Path) -> Rows:
+    """The rows of the file's whole lines, whatever its note says; a last line without its end was
+    cut off, and is none yet.
+    """
+    path, _ = paths(archive)
+    text = path.read_bytes() if path.exists() else b""
+    found, chains, wrong = list[Record](), [BEGIN], ""
+    rows = catalogue.csv_rows(text[: text.rfind(b"\n") + 1].decode("utf-8", "replace"))
+    try:
+        for number, row in enumerate(rows):
+            if number == 0:
+                if row != [*HEADER]:
+                    raise ValueError(f"the header is not {','.join(HEADER)}")
+                continue
+            its = record_of(row[-2].encode() + b"\n") if len(row) == len(HEADER) else None
+            if its is None or row != whole(chains[-1], its):
+                raise ValueError("it is not as it was written, nor is what follows it")
+            found.append(its)
+            chains.append(row[-1])
+    except (csv.Error, ValueError) as fault:
+        wrong = f"{path}, line {max(1, rows.line_num)}: {fault}. Take the file from a mirror"
+    return Rows(found, chains[1:], wrong)
+
+
+def whole(before: str, record: Record) -> list[str]:
+    """A row with its chain."""
+    return [*row_of(record), chain(before, record)]
+
+
+def to_extend(archive: Path) -> Rows:
+    """The rows for who appends some; a Fault if something is wrong with the file."""
+    found = rows_in(archive)
+    if found.fault:
+        raise plant.Fault(found.fault)
+    return found
+
+
+def extend(archive: Path, found: Rows, new: Sequence[Record]) -> list[Record]:
+    """Appends rows to those that are there, waits until they are on disk, and notes them, while the
+    caller holds the archive. Returns all records.
+    """
+    path, _ = paths(archive)
+    rows: list[Sequence[str]] = [] if found.records else [HEADER]
+    chains = [BEGIN, *found.chains]
+    for record in new:
+        rows.append(whole(chains[-1], record))
+        chains.append(rows[-1][-1])
+    if new and not found.records:
+        put_note(archive, [BEGIN])
+    if new:
+        append(path, catalogue.csv_text(rows), bool(found.records))
+    if len(chains) - 1 != noted(archive)[0]:  # also of a call that was killed
+        put_note(archive, chains)
+    return [*found.records, *new]
+
+
+def append(path: Path, text: str, is_begun: bool) -> None:
+    """Writes whole lines behind those that are there, and waits until they are on disk. What a
+    killed call left of a row goes.
+    """
+    with open(path, "a+b") as file:
+        file.seek(0)
+        file.truncate(file.read().rfind(b"\n") + 1 if is_begun else 0)
+        file.write(text.encode())
+        file.flush()
+        os.fsync(file.fileno())
+    files.keep(path.parent)
+
+
+def put_note(archive: Path, chains: Sequence[str]) -> None:
+    """Notes how many rows there are, by their chains from that of no row on."""
+    text = json.dumps({"Rows": len(chains) - 1, "Chain": chains[-1]})
+    files.put(paths(archive)[1], f"{text}\n", 0o644)
+
+
+def settle(archive: Path) -> bool:
+    """Notes the rows that are there as all of them, which a person has decided; whether the note
+    was another one. A Fault if they aren't as they were written.
+    """
+    with files.held(archive):
+        found = rows_there(archive)
+        if found.fault:
+            raise plant.Fault(found.fault)
+        is_wrong = bool(rows_in(archive).fault)
+        if is_wrong:
+            put_note(archive, [BEGIN, *found.chains])
+        return is_wrong
 
 
 # --- Reading
 
 
-def read(archive: pathlib.Path) -> Known:
+def read(archive: Path) -> Known:
     """The records of a line, those of its inbox last, and what is wrong with its files. Nothing is
     written.
     """
-    rows, faults = rows_of(archive)
-    inbox, known = inbox_of(archive), {it.id for it in rows}
+    found = rows_in(archive)
+    inbox, known = inbox_of(archive), {it.id for it in found.records}
     try:
         waiting = waiting_in(inbox)
     except OSError as fault:
         wrong = f"{fault.filename}: it can't be read: is untraced work in it? {fault.strerror}"
         waiting = Waiting({}, [], [wrong])
     new = [it for name, it in waiting.records.items() if name not in known]
-    return Known(rows + new, faults + waiting.faults)
-
-
-def rows_of(archive: pathlib.Path) -> tuple[list[Record], list[str]]:
-    """The records of the line's file, and what is wrong with it."""
-    found = BOOK.read(archive)
-    return found.values, [found.fault] if found.fault else []
+    faults = [found.fault] if found.fault else []
+    return Known(found.records + new, faults + waiting.faults)
 
 
 class Waiting(NamedTuple):
@@ -211,11 +343,11 @@ class Waiting(NamedTuple):
     """
 
     records: dict[str, Record]
-    files: list[pathlib.Path]
+    files: list[Path]
     faults: list[str]
 
 
-def waiting_in(inbox: pathlib.Path) -> Waiting:
+def waiting_in(inbox: Path) -> Waiting:
     """What waits in an inbox, and in the folder of decisions beside it. A decision in the inbox is
     none: who may send may put it there. Of two decisions of one second, whose order nobody knows,
     the one that leaves a board in recalls comes last, and counts.

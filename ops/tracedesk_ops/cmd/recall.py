@@ -25,8 +25,8 @@ tracedesk-chain is the one next to tracedesk, or that of CHAIN in the environmen
 
 A lot is only its name: --part PART leaves out other parts that came in a lot of that name. A reel
 that changed lines is followed under its other names. ATTRIBUTE is reel, part, lot, date_code,
-supplier, maker_part or order, as tracedesk-reels keeps them. If it is named twice, a reel has one
-of the values. A reel whose attributes nobody gave may be one of them: then the status is 3.
+supplier, maker_part or order, as the reel's receipt says it. If it is named twice, a reel has one
+of the values. A reel whose receipt doesn't say it may be one of them: then the status is 3.
 
 --line          a line's name, and its folder. Of a line on another computer name a mirror of it:
                 its newest sealed file stands for the desk

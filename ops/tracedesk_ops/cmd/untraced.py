@@ -22,9 +22,9 @@ untraced.json into the folder `status` of the line, if it is there, for the stat
 undecided entries `differs` of the line's book. ID may be the beginning of an id, if no other has
 it. A refused load, splice or unload has a record too, and needs no decision. If a recall names
 pieces as doubtful because of it, and nothing was placed from that reel, decide --became 'taken
-off'. If untraced.csv or reels.csv lacks a row, or its note is gone, and no mirror has it, look for
-that work in the shift's own records. Then decide about `lost` in place of an ID: the rows that are
-left count as all.
+off'. If untraced.csv lacks a row, or its note is gone, and no mirror has it, look for that work in
+the shift's own records. Then decide about `lost` in place of an ID: the rows that are left count as
+all.
 
 --line     the line's name or folder, where several are set up
 --became   scrapped, reworked, used as it is, sent again, or words of your own; of a refused reel,
@@ -41,7 +41,7 @@ import contextlib
 import time
 from typing import Any
 
-from tracedesk_ops import books, catalogue, collecting, model, options, places, plant
+from tracedesk_ops import catalogue, collecting, heads, model, options, places, plant
 from tracedesk_ops import reader_of, untraced
 from tracedesk_ops.line import LineFolder
 from tracedesk_ops.sealed import FilesFault
@@ -60,7 +60,7 @@ def collect(asked: argparse.Namespace) -> int:
                 plant.tell(f"{count} new, {len(untraced.undecided(records))} undecided")
             tell_station(asked, records)
             status = 3 if wrong else 0
-            record_heads(asked)
+            record_head(asked)
         except (plant.Fault, OSError, ValueError) as fault:
             plant.tell(str(fault))
             status = 3
@@ -69,13 +69,13 @@ def collect(asked: argparse.Namespace) -> int:
         time.sleep(asked.every)
 
 
-def record_heads(asked: argparse.Namespace) -> None:
-    """Lets the line's desk record the heads of its books, once for each: while it doesn't answer,
-    it is tried again.
+def record_head(asked: argparse.Namespace) -> None:
+    """Lets the line's desk record the newest head, once: while it doesn't answer, it is tried
+    again.
     """
-    stamps = books.stamps_of(asked.archive)
-    if stamps != getattr(asked, "recorded", []) and books.record(asked.archive):
-        asked.recorded = stamps
+    newest = heads.newest(asked.archive)
+    if newest != getattr(asked, "recorded", "") and heads.record(asked.archive):
+        asked.recorded = newest
 
 
 def tell_station(asked: argparse.Namespace, records: list[untraced.Record]) -> None:
@@ -91,7 +91,7 @@ def tell_station(asked: argparse.Namespace, records: list[untraced.Record]) -> N
 def show(asked: argparse.Namespace) -> int:
     book = untraced.read(asked.archive)
     line = LineFolder(asked.archive.parent)
-    faults = [*book.faults, *books.lacking(line, [untraced.BOOK])]
+    faults = [*book.faults, *heads.lacking(line)]
     decided, rows = untraced.decisions(book.records), []
     for it in book.records:
         if it.told["Kind"] != "decided" and (
@@ -108,7 +108,7 @@ def show(asked: argparse.Namespace) -> int:
 
 def decide(asked: argparse.Namespace) -> int:
     try:
-        is_settled = asked.id == untraced.LOST and books.settle(asked.archive)
+        is_settled = asked.id == untraced.LOST and untraced.settle(asked.archive)
         records, _, _ = collecting.collect(asked.archive)
         ids = ids_of(asked, records) or [untraced.LOST] * is_settled
         if not ids:
@@ -125,7 +125,7 @@ def decide(asked: argparse.Namespace) -> int:
 def ids_of(asked: argparse.Namespace, records: list[untraced.Record]) -> list[str]:
     """About what somebody decides: the record whose id begins so, or each head of lost rows."""
     if asked.id == untraced.LOST:
-        return books.lost(LineFolder(asked.archive.parent))
+        return heads.lost(LineFolder(asked.archive.parent))
     known = [*untraced.refused(records), *untraced.differing(records)]
     ids = [it.id for it in known if it.id.startswith(asked.id)]
     if len(ids) != 1:

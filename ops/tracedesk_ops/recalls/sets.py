@@ -10,9 +10,8 @@ import sqlite3
 from collections.abc import Iterable, Iterator, Sequence
 from typing import NamedTuple
 
-from tracedesk_ops import attributes, books, copies, entries, sealed, stored
-from tracedesk_ops.firstlook import Line, Question
-from tracedesk_ops.line import LineFolder
+from tracedesk_ops import copies, entries, sealed, stored
+from tracedesk_ops.firstlook import Question
 from tracedesk_ops.recalls.surveyed import Surveyed
 
 REELS = "SELECT reel, part, lot FROM reel"
@@ -21,7 +20,28 @@ MOVES = "SELECT uid, command FROM accepted WHERE uid >= 'move-' AND uid < 'move.
 MOVE = re.compile(r"(move-.+-\d+-\d+?)(-left)?-\d+")
 MOST_NAMED = 20  # reels in a message
 
-Cards = dict[attributes.Reel, list[attributes.Given]]  # with what each of their receipts has
+ATTRIBUTES = {  # the members of a receipt that have one
+    "DateCode": "date_code",
+    "Supplier": "supplier",
+    "MakerPart": "maker_part",
+    "Order": "order",
+}
+
+
+class Reel(NamedTuple):
+    """What is known of a reel; what nobody knows is empty."""
+
+    reel: str
+    part: str = ""
+    lot: str = ""
+    date_code: str = ""
+    supplier: str = ""
+    maker_part: str = ""
+    order: str = ""
+
+
+Given = dict[str, str]  # values by the names of attributes
+Cards = dict[Reel, list[Given]]  # with what each of their receipts has
 
 
 class Terms(NamedTuple):
@@ -29,11 +49,11 @@ class Terms(NamedTuple):
 
     values: dict[str, list[str]]
 
-    def take(self, its: attributes.Reel) -> bool:
+    def take(self, its: Reel) -> bool:
         told = its._asdict()
         return all(told[name] in values for name, values in self.values.items())
 
-    def lack(self, its: attributes.Reel) -> bool:
+    def lack(self, its: Reel) -> bool:
         """Whether a reel may be one of them, and an attribute that would say so isn't known."""
         told = its._asdict()
         named = {name: values for name, values in self.values.items() if told[name]}
@@ -52,10 +72,10 @@ def terms_of(words: Iterable[str]) -> Terms:
     values: dict[str, list[str]] = {}
     for word in words:
         name, equals, value = word.partition("=")
-        if not equals or not value or name not in attributes.ASKED:
+        if not equals or not value or name not in Reel._fields:
             raise ValueError(
                 f"{word} is no ATTRIBUTE=VALUE: an attribute is one of"
-                f" {', '.join(attributes.ASKED)}"
+                f" {', '.join(Reel._fields)}"
             )
         values.setdefault(name, []).append(value)
     return Terms(values)
@@ -82,11 +102,11 @@ class Known:
                 self.faults.append(f"{line}: the reels of {file} aren't known: {fault}")
 
     def read(self, database: sqlite3.Connection) -> None:
-        received: dict[str, attributes.Given] = collections.defaultdict(dict)
+        received: dict[str, Given] = collections.defaultdict(dict)
         for reel, word, told in self.received(database):
-            received[reel][attributes.RECEIVED[word]] = entries.plain(told).strip()
+            received[reel][ATTRIBUTES[word]] = entries.plain(told).strip()
         for row in copies.rows(database, REELS):
-            those = self.cards[row[0]].setdefault(attributes.Reel(*row), [])
+            those = self.cards[row[0]].setdefault(Reel(*row), [])
             those += [its for its in [received[row[0]]] if its and its not in those]
         for uid, command in copies.rows(database, MOVES):
             if found := MOVE.fullmatch(uid):
@@ -170,38 +190,25 @@ def question_of(kind: str, names: Sequence[str], part: str, those: Surveyed) -> 
         unknown = [lot for lot in names if not any(card.lot == lot for card in cards)]
         notes = [f"no line here knows the lot {lot}" for lot in unknown]
         return Meant(its, [*known.faults, *known.twice(of_lots)], notes)
-    return where(terms_of(names), known, those.lines)
+    return where(terms_of(names), known)
 
 
-def where(terms: Terms, known: Known, lines: Sequence[Line]) -> Meant:
-    """The question for the reels with these attributes. A reel whose attributes nobody knows may be
+def where(terms: Terms, known: Known) -> Meant:
+    """The question for the reels with these attributes. A reel whose receipt doesn't say them may be
     one of them.
     """
     faults = list(known.faults)
-    those: dict[str, list[attributes.Reel]] = {}  # by name: each line may have one
-    for line in lines:
-        try:
-            rows, wrong = books.attributes_of(LineFolder(line.folder))
-        except sealed.FilesFault as fault:
-            rows, wrong = [], [str(fault)]
-        for reel, its in attributes.newest(rows).items():
-            those.setdefault(reel, []).append(its)
-        faults += wrong
-    for reel, cards in known.cards.items():  # what a desk knows counts
-        told = those.get(reel, [attributes.Reel(reel)])
-        those[reel] = [
-            attributes.filled(its, it, more)
-            for its in told
-            for it in cards
-            for more in cards[it] or [{}]
-        ]
+    those = {
+        reel: [card._replace(**more) for card, its in cards.items() for more in its or [{}]]
+        for reel, cards in known.cards.items()
+    }
     lacking = sorted(reel for reel, its in those.items() if any(map(terms.lack, its)))
     if lacking:
         named = ", ".join(lacking[:MOST_NAMED])
         more = f" and {len(lacking) - MOST_NAMED} more" if len(lacking) > MOST_NAMED else ""
         faults.append(
             f"the attributes of {len(lacking)} reels aren't known, so they may be of this recall:"
-            f" {named}{more}. Give them by tracedesk-reels add"
+            f" {named}{more}. Look them up, and recall such reels by name"
         )
     taken = sorted(reel for reel, its in those.items() if any(map(terms.take, its)))
     reels = known.followed(taken)
