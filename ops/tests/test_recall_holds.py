@@ -9,6 +9,7 @@ from typing import Any, Iterator
 
 import pytest
 from lab import small
+from lab.desk import START, Desk
 from lab.line import Line
 from test_recall_page import Site
 from tracedesk_dev.ports import free_port
@@ -110,3 +111,19 @@ def test_a_hold_of_another_day_is_none(site: Site, line: Line) -> None:
     site.worker().work(is_once=True)
     assert "NOT DONE: it is of another day." in site.page(f"/recall/{old}/")
     assert line.get("/line/counts") == before
+
+
+def test_a_server_without_a_book_holds_nothing(
+    site: Site, line: Line, program: pathlib.Path, tmp_path: pathlib.Path
+) -> None:
+    """As `tracedesk serve`, which has none of a line's routes."""
+    plain = Desk(program, tmp_path / "plain/desk")
+    plain.start_script.write_text(START.format(program=program, file=plain.file, port=plain.port))
+    plain.serve()
+    (tmp_path / "etc/L2.conf").write_text(f"line = L2\ndb = /srv/L2/desk\nport = {plain.port}\n")
+    try:
+        page = answer(site, "hold lot", "L-3")
+    finally:
+        plain.end()
+    assert "NOT HELD on each line" in page and "L2: L-3: its server keeps no book" in page
+    assert "in the book of L1: L-3" in page and causes(line) == ["K-3"]
