@@ -191,9 +191,9 @@ python3 /usr/share/tracedesk/tracedesk-send.pyz --version
 ip link set lo up
 AUTOPKGTEST_TMP=$(mktemp -d) sh -x /day > /day.log 2>&1 && echo a day passed || tail -n 20 /day.log
 echo '{"MessageName":"TraceDesk.PartsDefined"}' | tracedesk-send --validate - || true
-stat -c '%n %U %G %a' /etc/tracedesk /var/lib/tracedesk /var/lib/tracedesk/sealed /var/lib/tracedesk/untraced /var/lib/tracedesk/status
-for who in www-data tracedesk-send; do setpriv --reuid=$who --regid=$who --init-groups sh -c 'umask 022; cd / && echo x > /var/lib/tracedesk/untraced/$1.json && ! ls /var/lib/tracedesk 2> /dev/null' sh $who; done
-runuser -u tracedesk -- sh -c 'cat /var/lib/tracedesk/untraced/*.json && rm /var/lib/tracedesk/untraced/*.json'
+stat -c '%n %U %G %a' /etc/tracedesk /var/lib/tracedesk /var/lib/tracedesk/sealed /var/lib/tracedesk/status
+for who in www-data tracedesk-send; do setpriv --reuid=$who --regid=$who --init-groups sh -c 'umask 022; cd / && echo x > /var/lib/tracedesk/status/$1.json && ! ls /var/lib/tracedesk 2> /dev/null' sh $who; done
+runuser -u tracedesk -- sh -c 'cat /var/lib/tracedesk/status/*.json && rm /var/lib/tracedesk/status/*.json'
 runuser -u tracedesk -- tracedesk feed --db /var/lib/tracedesk/desk < /dev/null
 echo changed > /etc/tracedesk/station/setup.json; touch /etc/tracedesk/senders
 ln -s ../sites-available/tracedesk /etc/nginx/sites-enabled/tracedesk || mkdir -p /etc/nginx/sites-enabled
@@ -226,8 +226,8 @@ def test_it_is_installed_and_purged_in_a_root_that_goes_away(packages: Packages)
         "\ndisabled\ndisabled\ndisabled\n",
         (
             "\n/etc/tracedesk root www-data 750\n/var/lib/tracedesk tracedesk tracedesk"
-            " 710\n/var/lib/tracedesk/sealed tracedesk tracedesk 700\n/var/lib/tracedesk/untraced"
-            " tracedesk tracedesk 2770\n/var/lib/tracedesk/status tracedesk tracedesk 2770\n"
+            " 710\n/var/lib/tracedesk/sealed tracedesk tracedesk 700\n/var/lib/tracedesk/status"
+            " tracedesk tracedesk 2770\n"
         ),
         f"\npackage {packages.version()} /usr/lib/python3/dist-packages/tracedesk/__init__.py\n",
         f"\ntracedesk-send {packages.version()}\n",

@@ -16,8 +16,7 @@ END $$;
 CREATE TABLE IF NOT EXISTS line (
     name    text PRIMARY KEY,
     oldest  interval DEFAULT '2 days',
-    refused text NOT NULL DEFAULT '',   -- why its folder was not loaded the last time
-    records text[] NOT NULL DEFAULT '{}'    -- of its untraced work: a folder without one is older
+    refused text NOT NULL DEFAULT ''    -- why its folder was not loaded the last time
 );
 -- the files of their chains
 CREATE TABLE IF NOT EXISTS file (

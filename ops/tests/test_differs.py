@@ -8,9 +8,7 @@ from typing import Any, Iterator
 import pytest
 from lab.line import Line, table
 from lab.tools import run_tool
-from test_untraced_line import FIRST, LATER, Plant
-from tracedesk import records
-from tracedesk_ops import collecting, inboxes, untraced
+from test_untraced_line import FIRST, Plant
 
 NOW = "2026-03-02T06:05:00Z"
 
@@ -19,7 +17,6 @@ NOW = "2026-03-02T06:05:00Z"
 def plant(program: pathlib.Path, folder: pathlib.Path) -> Iterator[Plant]:
     line = Line(program, folder / "plant")
     line.serve()
-    (line.folder / "decided").mkdir(parents=True)
     made = Plant(line)
     made.make_ready(*((f"R-{number}", "P", "1", 9) for number in (1, 2, 3)), ("R-4", "Q", "1", 9))
     made.on_slot(FIRST, "MaterialsLoaded", Reel="R-1")
@@ -36,15 +33,7 @@ def build(plant: Plant, *reels: "str | None", board: str = "B1") -> None:
         plant.message(NOW, "MaterialsInstalled", **at, Designators=["C1"], **named),
         plant.message(NOW, "WorkCompleted", **at),
     ]
-    given = b"\n".join(lines) + b"\n"
-    plant.send("--follow", "-", *plant.handed_on, given=given).expect(0)
-
-
-def put(plant: Plant) -> None:
-    """What a sender of 1.0.0 says of a board that was built with reel R-2."""
-    its = {"Board": "B1", "Designators": ["C1"], "DeskReel": "R-1", "Machine": "M1"}
-    id_, text = records.record("differs", "tracedesk-send m1", NOW, **its, MachineReel="R-2")
-    (plant.inbox / f"{id_}.json").write_bytes(text)
+    plant.line.accept(*lines)
 
 
 def open_entry(plant: Plant) -> int:
@@ -65,7 +54,7 @@ def test_both_lots_name_the_board_unless_it_is_scrapped(plant: Plant) -> None:
     build(plant, "R-2")
     its = ("B1", "C1", "R-1", "R-2", "the machine names another reel (entry 1 of running desk)")
     assert [boards(plant, lot) for lot in ("L-R-1", "L-R-2")] == [[its]] * 2
-    assert boards(plant, "L-R-3") == [] and not list(plant.inbox.glob("*.json"))
+    assert boards(plant, "L-R-3") == []
     for became in ("the machine was wrong: its feeder table was old", "used as it is"):
         plant.line.note("decisions", Of=1, Became=became)
         for lot in ("L-R-1", "L-R-2"):
@@ -120,88 +109,9 @@ def test_reels_that_cannot_be_compared_put_the_board_in_doubt(plant: Plant) -> N
     plant.recall("L-R-1", 0, "doubtful")
 
 
-def test_the_station_shows_the_board_until_somebody_decides(plant: Plant) -> None:
-    build(plant, "R-2")
-    (told,) = collecting.contradicted(plant.line.port)
-    names = ("Board", "Designators", "DeskReel", "Id", "Machine", "Place", "Refusal", "Slot")
-    its = ["B1", ["C1"], "R-1", "entry 1", "M1", "R-2", "Differs", "1"]
-    assert [told[name] for name in names] == its
-    collecting.write_status(plant.status, [], [told])
-    assert json.loads((plant.status / "untraced.json").read_text())["Undecided"] == [told]
-    plant.line.note("decisions", Of=1, Became="used as it is")
-    assert collecting.contradicted(plant.line.port) == []
-    plant.line.end()
-    assert collecting.contradicted(plant.line.port) == []
-
-
-def test_a_record_of_a_sender_of_1_0_0_counts_as_before(plant: Plant) -> None:
-    """Until somebody decides about it."""
-    build(plant, None)
-    put(plant)
-    plant.untraced("collect").expect()
-    told = json.loads((plant.status / "untraced.json").read_text())["Undecided"]
-    assert [(it["Board"], it["Refusal"], it["Place"]) for it in told] == [("B1", "Differs", "R-2")]
-    assert [(it["DeskReel"], it["Designators"]) for it in told] == [("R-1", ["C1"])]
-    (record,) = untraced.undecided(untraced.read(plant.line.archive).records)
-    why = f"the machine names another reel ({record.id[:8]})"
-    assert boards(plant, "L-R-2") == [("B1", "C1", "R-1", "R-2", why)]
-    plant.decide(record.id[:12], "scrapped")
-    assert boards(plant, "L-R-2") == []
-
-
 @pytest.mark.parametrize("reels", [("R-1",), (None,)])
 def test_where_they_agree_or_none_is_named_nothing_is_in_doubt(
     plant: Plant, reels: "tuple[str | None, ...]"
 ) -> None:
     build(plant, *reels)
     assert table(plant.recall("L-R-1", 0, "doubtful")) == []
-    assert not list(plant.inbox.glob("*.json"))
-
-
-def test_a_decision_in_the_inbox_is_none(plant: Plant) -> None:
-    """Whoever may send may put it there."""
-    put(plant)
-    plant.untraced("collect").expect()
-    (record,) = untraced.undecided(untraced.read(plant.line.archive).records)
-    told = {
-        "At": LATER,
-        "Became": "x",
-        "By": "Q",
-        "Kind": "decided",
-        "Of": record.id,
-        "Reason": "y",
-    }
-    text = json.dumps(told, sort_keys=True, separators=(",", ":")).encode() + b"\n"
-    decided = untraced.record_of(text)
-    for folder, undecided in ((plant.inbox, 1), (plant.line.folder / "decided", 0)):
-        (folder / f"{decided.id}.json").write_bytes(text)
-        plant.untraced("collect").expect()
-        assert len(untraced.undecided(untraced.read(plant.line.archive).records)) == undecided
-
-
-def test_where_too_much_waits_nginx_is_told(plant: Plant, monkeypatch: pytest.MonkeyPatch) -> None:
-    """Of one log-in, and of all."""
-    for owner in ("", "m1~", "m2~"):
-        (plant.inbox / f"{owner}{'0' * 32}.json").write_bytes(b"x" * 1000)
-    (plant.inbox / "m2~0.json").write_bytes(b"x" * 9)  # is none
-    marks_of: list[tuple[int, int, list[str]]] = [
-        (999, 2999, ["full", "m1~full", "m2~full"]),
-        (1000, 2999, ["full"]),
-        (999, 3000, ["m1~full", "m2~full"]),
-        (1000, 3000, []),
-    ]
-    for of_one, of_all, marks in marks_of:
-        monkeypatch.setattr(inboxes, "MOST_OF_ONE", of_one)
-        monkeypatch.setattr(inboxes, "MOST_WAITING", of_all)
-        faults = collecting.collect(plant.line.archive)[2]
-        assert sorted(it.name for it in plant.inbox.glob("*full")) == marks
-        assert len([it for it in faults if "the proxy takes no more" in it]) == len(marks)
-
-
-def test_a_record_of_two_log_ins_has_one_row(plant: Plant) -> None:
-    plant.send_refused(plant.message(NOW, "WorkStarted", Machine="M2", Board="SN-1"))
-    (file,) = plant.inbox.glob("*.json")
-    for owner in ("m1", "m2"):
-        file.with_name(f"{owner}~{file.name}").write_bytes(file.read_bytes())
-    assert collecting.collect(plant.line.archive)[1:] == (1, [])
-    assert [it.name for it in plant.inbox.glob("*.json")] == [untraced.COLLECTED]

@@ -72,7 +72,8 @@ def test_a_mirror_is_asked_up_to_its_newest_file(line: Line, folder: Path) -> No
 
 def older_release(line: Line, folder: Path) -> Path:
     """A line of 1.0.0: its desk, and an archive whose name has times and digits."""
-    folder.joinpath("archive").mkdir(parents=True)
+    for name in ("archive", "untraced"):
+        folder.joinpath(name).mkdir(parents=True)
     archive = folder / f"archive/L1-19700101T0000Z-19700101T0000Z-{digits_of(line)}"
     line.file.rename(archive)
     line.feed(begun.messages_of(archive), statuses=(0,))

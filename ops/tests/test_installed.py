@@ -139,7 +139,7 @@ def test_a_purge_keeps_what_was_sent_and_the_next_installation_goes_on(
 ) -> None:
     audit = f"runuser -u tracedesk -- tracedesk audit --db {DESK}"
     first = machine.post("before-the-purge", body=True)
-    machine.shell("systemctl stop 'tracedesk*'")  # the status of untraced work has its time in it
+    machine.shell("systemctl stop 'tracedesk*'")
     lawful, before = machine.shell(audit), machine.shell(SUMS)
     machine.shell("apt-get purge --yes 'tracedesk*'")
     left = "systemctl list-units --state=active --no-legend 'tracedesk*'; nginx -t 2> /dev/null"

@@ -1,6 +1,5 @@
 """Each unit of the packages on a fresh Debian 12, with a real request, and its journal: what is
-packaged is run as packaged. By its name it comes after the other files of the installed Debian:
-what was untraced stays with the desk, and their restores and recalls would name it.
+packaged is run as packaged.
 """
 import datetime
 import json
@@ -11,7 +10,7 @@ from typing import Callable, Iterator
 import pytest
 from lab import ROOT
 from lab.installed import metrics_of
-from lab.machine import ARCHIVE, JSON, URL, Machine, part
+from lab.machine import JSON, URL, Machine, part
 from lab.waits import wait_for
 
 pytestmark = [pytest.mark.root, pytest.mark.xdist_group("machine")]
@@ -181,30 +180,6 @@ def test_tracedesk_recall_sign_of(page: Machine, journal: Callable[[str], None])
         page.shell(f"! runuser -u {user} -- test -w {ANSWERS}")
     page.shell(f"! runuser -u www-data -- test -w {ASKED}")
     journal("tracedesk-recall-sign@*")
-
-
-def test_tracedesk_untraced(machine: Machine, journal: Callable[[str], None]) -> None:
-    """A report that the desk refuses, from its sender to a row and a decision."""
-    machine.shell("systemctl enable --now tracedesk-untraced")
-    body = {"Machine": "no-machine", "Board": "SN-each\r"}
-    word = {"MessageName": "TraceDesk.WorkStarted", "MessageBody": body}
-    said = {**json.loads(part("each-untraced")), **word}
-    send = "tracedesk-send --url https://desk.plant --ca /etc/tracedesk/server.crt --user m1"
-    how = "--password-file /etc/tracedesk/m1.password --spool /tmp/each-spool"
-    machine.write(f"{json.dumps(said)}\n", "/tmp/each-untraced.jsonl")
-    call = f"{send} {how} --untraced {URL}/line/untraced"
-    machine.by_client(f"rm -rf /tmp/each-spool*; {send} {how} --put /tmp/each-untraced.jsonl")
-    machine.by_client(f"{call} || test $? = 1")
-    row = "tracedesk-untraced list 2> /dev/null | grep SN-each || true"
-    wait_for("its row", lambda: machine.shell(row))
-    name = machine.shell(row).partition(",")[0]
-    machine.shell(
-        f"tracedesk-untraced decide {name} --by 'A. Person' --became scrapped --reason tried"
-    )
-    assert machine.shell(row) == ""
-    assert "SN-each" in machine.shell(f"cat {ARCHIVE}/untraced.csv")
-    assert state_of(machine, "tracedesk-untraced") == ["success", "0"]
-    journal("tracedesk-untraced")
 
 
 # --- A line that is a folder

@@ -9,9 +9,8 @@ from lab.databases import Database
 from lab.messages import FIRST_LINE
 from lab.plants import WorkedLine, expect_whole, pieces
 from lab.recalls import recalled
-from lab.records import a_record, refused
 from lab.tools import Word
-from tracedesk_ops import collecting, doubts, lineage, loading, untraced
+from tracedesk_ops import doubts, lineage, loading
 from tracedesk_ops.tapes import DoubtfulPiece, Tapes
 
 pytestmark = [pytest.mark.xdist_group("plant_load_lines")]
@@ -101,11 +100,9 @@ class Doubted:
     def load(self) -> None:
         self.database.load(self.line.copy())
 
-    def put(self, record: tuple[str, bytes]) -> str:
-        """Puts a record into the line's inbox; its id."""
-        name, text = record
-        (self.line.folder / f"untraced/{name}.json").write_bytes(text)
-        return str(untraced.record_of(text).id)
+    def refuse(self, said: bytes) -> None:
+        (answer,) = self.line.post([said])
+        assert answer["Answer"] == "Refused", answer
 
     def expect_as_recalled(self, kind: str, name: str) -> None:
         """The designators that a recall of the line names as doubtful are those of the tables."""
@@ -131,8 +128,7 @@ def doubted(program: pathlib.Path, folder: pathlib.Path, database: Database) -> 
         its.on_machine(15, "MaterialsLoaded", Slot="1", Reel="K2"),
         its.on_machine(21, "MaterialsInstalled", Board="B1", Designators=["R3"]),
     )
-    for name in ("untraced", "sealed"):
-        (line.folder / name).mkdir(exist_ok=True)
+    (line.folder / "sealed").mkdir(exist_ok=True)
     its.load()
     yield its
     line.end()
@@ -150,7 +146,7 @@ def test_a_refused_reel_that_the_desk_does_not_know_makes_pieces_doubtful(
     doubted: Doubted,
 ) -> None:
     load = doubted.on_machine(22, "MaterialsLoaded", Slot="1", Reel="X9")
-    doubted.put(refused(load, "UnknownReel", "1970-01-01T00:22:00Z"))
+    doubted.refuse(load)
     doubted.line.accept(
         doubted.on_machine(23, "MaterialsInstalled", Board="B1", Designators=["R4"])
     )
@@ -169,30 +165,32 @@ def test_a_reel_that_only_the_machine_names_makes_its_piece_doubtful(doubted: Do
         doubted.expect_as_recalled(kind, name)
 
 
-def test_a_record_of_anybodys_words_is_loaded(doubted: Doubted) -> None:
+def test_work_of_anybodys_words_is_loaded(doubted: Doubted) -> None:
     """PostgreSQL has no U+0000 and no half letter."""
-    load = doubted.on_machine(22, "MaterialsLoaded", Slot="1", Reel="X\0\ud800")
-    doubted.put(refused(load, "UnknownReel", "1970-01-01T00:22:00Z"))
-    more = doubted.on_machine(23, "MaterialsInstalled", Board="B1", Designators=["R4"])
-    doubted.line.accept(more)
+    odd = {"Board": "X\0\ud800", "Designators": ["R4"]}
+    (answer,) = doubted.line.post([doubted.on_machine(22, "MaterialsInstalled", **odd)])
+    assert answer["Answer"] == "Faulty"
     doubted.load()
-    assert r"K2 or X\0\ud800 of lot" in doubted.database.query("pieces", 3, board="B1").said
+    assert r"board X\x00\ud800" in doubted.database.query("pieces", 3, board="B1").said
+
+
+def started(doubted: Doubted) -> int:
+    """Board B2 is started while B1 is in work, which is refused: the number of the entry."""
+    doubted.refuse(doubted.on_machine(30, "WorkStarted", Board="B2"))
+    return 1
 
 
 def test_untraced_work_is_named_until_it_is_decided(doubted: Doubted) -> None:
     """And no older folder takes anything back."""
-    database, line = doubted.database, doubted.line
-    without = line.kept()[-1]
-    record = doubted.put(a_record(1))
+    database, line, of = doubted.database, doubted.line, started(doubted)
     doubted.load()
     undecided = line.kept()[-1]
-    database.refuse("it lacks 1 records of untraced work", without)
-    assert record in database.query("pieces", 3, lot="L1").said
-    collecting.decide(line.archive, record, "A. Person", "scrapped", "as seen")
+    assert "nobody decided about entry 1 of" in database.query("pieces", 3, lot="L1").said
+    line.note("decisions", Of=of, Became="scrapped")
     doubted.load()
-    assert record not in database.query("pieces", 3, lot="L1").said
-    database.refuse("it lacks 1 records of untraced work", undecided)
-    assert "the newest folder" in database.query("pieces", 3, lot="L1").said
+    assert "nobody decided" not in database.query("pieces", 3, lot="L1").said
+    database.refuse("its files are older than those that are loaded", undecided)
+    assert "load the newest ones" in database.query("pieces", 3, lot="L1").said
 
 
 def test_a_doubt_about_a_name_of_two_lots_is_of_each(monkeypatch: pytest.MonkeyPatch) -> None:
@@ -208,8 +206,7 @@ def test_a_doubt_about_a_name_of_two_lots_is_of_each(monkeypatch: pytest.MonkeyP
 
 
 def test_a_board_that_is_kept_is_doubtful(doubted: Doubted) -> None:
-    record = doubted.put(a_record(1))
-    collecting.decide(doubted.line.archive, record, "A. Person", "used as it is", "as seen")
+    doubted.line.note("decisions", Of=started(doubted), Became="used as it is")
     doubted.load()
     said = doubted.database.query("pieces", 3, lot="L1").said
-    assert re.search(r"piece of D1:  of board B1, .* may be of another one: worked", said)
+    assert re.search(r"piece of D1:  of board B2, .* may be of .*: worked", said)

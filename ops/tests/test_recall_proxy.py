@@ -8,11 +8,10 @@ from typing import Any, Iterator
 
 import pytest
 import station_site
-from lab import records, small
+from lab import small
 from lab.line import Line
 from lab.site import Site
 from lab.tools import tool
-from tracedesk_ops import untraced
 from tracedesk_ops.recallpage import papers
 from tracedesk_ops.recallpage.jobs import Queue
 from tracedesk_ops.recallpage.worker import Worker
@@ -258,16 +257,12 @@ def test_a_desk_that_is_away_is_named_in_a_browser(reader: Reader, line: Line) -
 def test_work_about_which_nobody_decided_is_named_in_a_browser(reader: Reader, line: Line) -> None:
     """A board whose report the desk refused: its pieces are in no trace."""
     body = {"Machine": "M1", "Board": "SN-8", "Designators": ["C1"]}
-    message = small.say("MaterialsInstalled", "refused", **body)
-    name, text = records.refused(message, "NotInWork")
-    inbox = untraced.inbox_of(line.archive)
-    inbox.mkdir(exist_ok=True)
-    (inbox / f"{name}.json").write_bytes(text)
+    line.post([small.say("MaterialsInstalled", "refused", **body)])
     try:
         reader.asks("L-3")
         reader.worker.work(is_once=True)
     finally:
-        (inbox / f"{name}.json").unlink()
+        line.note("decisions", Of=1, Became="scrapped")
     assert reader.waits().startswith("NOT COMPLETE: 1 board holds a piece of lot L-3")
     table = reader.page.find_elements("css selector", "table")[-2].text
     assert "SN-8" in table and "MaterialsInstalled" in table, table

@@ -75,14 +75,10 @@ STORIES: dict[str, tuple[Optional[tuple[str, str]], list[Accepted], list[tuple[s
 WRONG = [spliced(3, "R2"), placed(4, "R1"), placed(6, "R1"), placed(7, "R2")]
 
 
-def refusals(its: Iterable[tuple[str, str]], reel: str = "R2") -> list[untraced.Record]:
+def refusals(its: Iterable[tuple[str, str]], reel: str = "R2") -> list[untraced.Noted]:
     return [
-        untraced.record_of(
-            refused(
-                messages.message(word, "r", REFUSED_AT, Machine="M", Slot="1", Reel=reel),
-                refusal,
-                REFUSED_AT,
-            )[1]
+        refused(
+            messages.message(word, "r", REFUSED_AT, Machine="M", Slot="1", Reel=reel), refusal, 5
         )
         for word, refusal in its
     ]
@@ -90,7 +86,7 @@ def refusals(its: Iterable[tuple[str, str]], reel: str = "R2") -> list[untraced.
 
 def told(
     accepted: list[Accepted],
-    records: Iterable[untraced.Record] = (),
+    records: Iterable[untraced.Noted] = (),
     works: Iterable[tapes.Work] = (),
     known: tuple[str, ...] = KNOWN,
 ) -> tuple[Tapes, list[DoubtfulPiece]]:
@@ -219,19 +215,18 @@ def test_a_board_that_is_kept_may_have_each_reel_of_its_machine() -> None:
     its, _ = told(accepted, refusals([("MaterialsSpliced", "WrongPart")]))
     for machine, reels in (("M", ("R1", "R2", "R3")), ("N", ())):
         said = messages.message("MaterialsInstalled", "w", at, Machine=machine, Board="B\r")
-        (row,) = doubts.kept(its, untraced.record_of(refused(said, "NotInWork", at)[1]))
+        (row,) = doubts.kept(its, refused(said, "NotInWork", 7))
         assert (row.board, row.machine, row.reel, row.other_reels) == ("B\\r", machine, "", reels)
         for kind, name in (("reel", "R2"), ("lot", "L-R1"), ("board", "B\\r")):
             assert its.concerning(Question(kind, name), [row])
-    text = '{"Answer":{"Answer":"Faulty"},"At":"x","Kind":"refused","Message":{}}\n'
-    (row,) = doubts.kept(its, untraced.record_of(text.encode()))
+    (row,) = doubts.kept(its, refused(said, "NotJson", 7, "unread")._replace(word="", body={}))
     for kind, name in (("lot", "L"), ("reel", "R"), ("board", "B")):
-        assert its.concerning(Question(kind, name), [row])
+        assert its.concerning(Question(kind, name), [row._replace(board="")])
     for word in doubts.NO_PIECES:
         said = messages.message(word, "w", at, Machine="M", Board="B", Slot="1", Quantity=1)
-        assert not [*doubts.kept(its, untraced.record_of(refused(said, "NotInWork", at)[1]))]
+        assert not [*doubts.kept(its, refused(said, "NotInWork", 7))]
 
 
 @pytest.mark.parametrize("text", ["0001-01-01T00:00:00+14:00", "9999-12-31T23:59:59-14:00"])
 def test_a_time_that_utc_does_not_have_has_no_minute(text: str) -> None:
-    assert doubts.minute_of(text) is None
+    assert untraced.minute_of(text) is None

@@ -1,6 +1,6 @@
-"""From a refused report to the recall that names its board, with a desk and a sender."""
-import base64
-import json
+"""From a refused report to the recall that names its board, with a line's server."""
+import csv
+import io
 import pathlib
 from typing import Any, Iterator
 
@@ -9,22 +9,16 @@ from lab import messages
 from lab.line import Line, table
 from lab.recalls import key_in, signers_of
 from lab.tools import SENDER, Ended, Word, run, run_tool
-from tracedesk_ops import untraced
 
 FIRST, LATER = "2026-03-02T06:00:00Z", "2026-03-03T12:00:00Z"
 SHEET = [{"Slot": "1", "PartNumber": "P", "Designators": ["C1"]}]
 
 
 class Plant:
-    """A line's desk, a sender of its machine M1, and what a person calls."""
+    """A line's desk, a sender of its machine M1, and what a person says."""
 
     def __init__(self, line: Line) -> None:
         self.line, self.said = line, 0
-        self.inbox, self.status = line.folder / "untraced", line.folder / "status"
-        for folder in (line.archive, self.inbox, self.status):
-            folder.mkdir(parents=True)
-        self.handed_on: list[Word] = ["--untraced", self.inbox, "--status", self.status]
-        self.handed_on += ["--name", "m1"]
 
     def message(self, time: str, word: str, **body: Any) -> bytes:
         self.said += 1
@@ -50,22 +44,22 @@ class Plant:
         spool: list[Word] = ["--url", self.line.url, "--spool", self.line.folder / "m1"]
         return run([SENDER, *spool, *words], given=given)
 
-    def send_refused(self, *lines: bytes) -> None:
-        given = b"\n".join(lines) + b"\n"
-        self.send("--follow", "-", *self.handed_on, given=given).expect(1)
+    def refused(self, *lines: bytes) -> None:
+        """Says messages that the desk refuses, or can't read."""
+        for answer in self.line.post(lines):
+            assert answer["Answer"] in ("Refused", "Faulty"), answer
 
-    def untraced(self, *words: Word) -> Ended:
-        return run_tool("untraced", *words, "--line", self.line.folder)
+    def undecided(self) -> list[dict[str, str]]:
+        text = self.line.get("/line/undecided")[1]
+        return list(csv.DictReader(io.StringIO(text, newline="")))
 
-    def decide(self, record: str, became: str) -> None:
-        person: list[Word] = ["--by", "A. Person", "--became", became, "--reason", "seen"]
-        self.untraced("decide", record, *person).expect()
+    def decide(self, number: "str | int", became: str) -> None:
+        self.line.note("decisions", Of=int(number), Became=became)
 
     def decide_all(self) -> None:
-        book = untraced.read(self.line.archive)
-        for number, record in enumerate(untraced.undecided(book.records)):
+        for row in self.undecided():
             self.recall("L-OLD", 3)
-            self.decide(record.id[:12] if number else record.id, "scrapped")
+            self.decide(row["n"], "scrapped")
 
     def recall(self, lot: str, status: int, show: str = "untraced") -> str:
         return self.line.recall("--show", show, lot=lot).expect(status).out
@@ -89,16 +83,12 @@ def expired(plant: Plant) -> Plant:
         where = {"Machine": "M1", "Board": board}
         works.append(plant.message(LATER, "WorkStarted", **where))
         works.append(plant.message(LATER, "MaterialsInstalled", **where, Designators=["C1"]))
-    plant.send_refused(*works)
+    given = b"\n".join(works) + b"\n"
+    plant.send("--follow", "-", given=given).expect(1)
     plant.on_slot(LATER, "MaterialsUnloaded")
     plant.on_slot(LATER, "MaterialsLoaded", Reel="NEW")
     plant.send("--again", "all").expect(6)
-    plant.send(*plant.handed_on)
     return plant
-
-
-def collect(plant: Plant) -> None:
-    plant.untraced("collect").expect()
 
 
 ODD = {  # what a scanner or a program may put into a report that no desk takes
@@ -120,39 +110,30 @@ def test_a_report_with_any_text_is_kept_recalled_and_verified(plant: Plant, name
     if name == "deep":
         deep = b"[" * 985 + b"]" * 985
         said.append(said[0].replace(b'[[[["x"]]]]', deep).replace(b'"u', b'"v'))
-    plant.send_refused(*said)
-    collect(plant)
-    book = untraced.read(plant.line.archive)
-    assert not book.faults and len(book.records) == len(said)
-    assert {base64.b64decode(record.told["Raw"]) for record in book.records} == set(said)
+    plant.refused(*said)
+    rows = plant.undecided()
+    assert [row["told"].encode() for row in rows] == said
     evidence = plant.line.folder / "evidence"
     key = key_in(plant.line.folder.parent, "key")
     words: list[Word] = [*plant.line.recall_words(), "--evidence", evidence, "--key", key]
     run_tool("recall", "lot", "L-K-1", *words).expect(3, "nobody decided about it")
     run_tool("verify", evidence, "--signers", signers_of(key)).expect()
-    for record in book.records:
-        plant.decide(record.id, "scrapped")
+    for row in rows:
+        plant.decide(row["n"], "scrapped")
     plant.recall("L-K-1", 0)
 
 
-@pytest.mark.parametrize("is_collected", [False, True], ids=["waiting", "collected"])
 @pytest.mark.parametrize("lot", ["L-OLD", "L-NEW"])
-def test_a_recall_names_boards_that_were_worked_untraced(
-    expired: Plant, lot: str, is_collected: bool
-) -> None:
-    if is_collected:
-        collect(expired)
-    told = expired.recall(lot, 3)
-    rows = told.split("\n", 1)[1]
+def test_a_recall_names_boards_that_were_worked_untraced(expired: Plant, lot: str) -> None:
+    rows = expired.recall(lot, 3).split("\n", 1)[1]
     assert all(name in rows for name in ("B1", "B2", "OLD"))
 
 
-def test_the_station_shows_what_is_undecided(expired: Plant) -> None:
-    collect(expired)
-    shown = json.loads((expired.status / "untraced.json").read_bytes())["Undecided"]
-    got = sorted((work["Machine"], work["Board"], work["MessageName"]) for work in shown)
-    words = ("TraceDesk.MaterialsInstalled", "TraceDesk.WorkStarted")
-    assert got == [("M1", board, word) for board in ("B1", "B2") for word in words]
+def test_untraced_work_is_named_behind_a_roll_over_too(expired: Plant) -> None:
+    expired.line.rollover().expect()
+    assert len(expired.undecided()) == 4
+    expired.decide_all()
+    assert expired.recall("L-OLD", 0).count("A. Person") == 4
 
 
 def test_a_recall_is_whole_once_all_is_scrapped(expired: Plant) -> None:
@@ -168,10 +149,9 @@ def test_no_other_decision_takes_a_board_out_of_a_recall(expired: Plant, became:
     expired.accept(
         LATER, "ReelReceived", Reel="Q1", PartNumber="Q", Lot="L-Q1", Level="1", Quantity=9
     )
-    collect(expired)
-    records = untraced.undecided(untraced.read(expired.line.archive).records)
-    for record in records:
-        expired.decide(record.id, became)
+    rows = expired.undecided()
+    for row in rows:
+        expired.decide(row["n"], became)
     named = {"B1", "B2"}
     for lot in ("L-OLD", "L-NEW"):
         assert {row["board"] for row in table(expired.recall(lot, 5, "doubtful"))} == named
@@ -181,8 +161,8 @@ def test_no_other_decision_takes_a_board_out_of_a_recall(expired: Plant, became:
         assert {row["board"] for row in told} == ({"B1"} if words[0] == "board" else named)
         assert all("and not scrapped (" in row["why"] for row in told)
     assert table(expired.recall("L-Q1", 0, "doubtful")) == []
-    for record in records:
-        expired.decide(record.id, "scrapped")
+    for row in rows:
+        expired.decide(row["n"], "scrapped")
     for lot in ("L-OLD", "L-NEW"):
         assert table(expired.recall(lot, 0, "doubtful")) == []
 
@@ -191,10 +171,9 @@ def test_a_board_without_a_known_reel_is_in_each_recall(plant: Plant) -> None:
     """Nothing was on the machine, and a report that nobody can read names none."""
     plant.make_ready(("K-1", "P", "1", 100))
     said = plant.message(LATER, "MaterialsInstalled", Machine="M1", Board="B1", Designators=["C1"])
-    plant.send_refused(said, said[:-2])
-    collect(plant)
-    for record in untraced.undecided(untraced.read(plant.line.archive).records):
-        plant.decide(record.id, "used as it is")
+    plant.refused(said, said[:-2])
+    for row in plant.undecided():
+        plant.decide(row["n"], "used as it is")
     boards = [row["board"] for row in table(plant.recall("L-K-1", 5, "doubtful"))]
     assert sorted(boards) == ["", "B1"]
 
@@ -202,13 +181,12 @@ def test_a_board_without_a_known_reel_is_in_each_recall(plant: Plant) -> None:
 def test_a_reel_that_was_refused_before_the_board_may_be_on_it(plant: Plant) -> None:
     plant.make_ready(("K-1", "P", "1", 100), ("WRONG", "Q", "1", 100))
     plant.on_slot(FIRST, "MaterialsLoaded", Reel="K-1")
-    plant.send_refused(
+    plant.refused(
         plant.message(LATER, "MaterialsSpliced", Machine="M1", Slot="1", Reel="WRONG"),
         plant.message(LATER, "MaterialsInstalled", Machine="M1", Board="B1", Designators=["C1"]),
     )
-    collect(plant)
-    (record,) = untraced.undecided(untraced.read(plant.line.archive).records)
-    plant.decide(record.id, "used as it is")
+    (row,) = plant.undecided()
+    plant.decide(row["n"], "used as it is")
     for lot in ("L-K-1", "L-WRONG"):
         assert "B1" in plant.recall(lot, 5, "doubtful")
 
@@ -219,7 +197,7 @@ def test_a_refused_splice_makes_pieces_doubtful_until_it_is_decided(plant: Plant
     plant.make_ready(("FIRST", "P", "1", 1), ("WRONG", "Q", "1", 100), ("NEXT", "P", "1", 100))
     plant.on_slot(times[1], "MaterialsLoaded", Reel="FIRST")
     wrong = {"Machine": "M1", "Slot": "1", "Reel": "WRONG"}
-    plant.send_refused(plant.message(times[2], "MaterialsSpliced", **wrong))
+    plant.refused(plant.message(times[2], "MaterialsSpliced", **wrong))
     plant.on_slot(times[3], "MaterialsSpliced", Reel="NEXT")
     for time, board in ((times[4], "B1"), (times[5], "B2")):
         where = {"Machine": "M1", "Board": board}
@@ -229,8 +207,7 @@ def test_a_refused_splice_makes_pieces_doubtful_until_it_is_decided(plant: Plant
     for lot in ("L-WRONG", "L-NEXT"):
         told = plant.recall(lot, 5, "doubtful")
         assert [row["board"] for row in table(told)] == ["B1", "B2"]
-    plant.untraced("list").expect()  # no work is untraced
-    record = told.partition("a refused reel may be on the slot (")[2].partition(")")[0]
-    plant.decide(record, "taken off")
+    assert plant.undecided() == [] and "a refused reel may be on the slot (entry 1 of " in told
+    plant.decide(1, "taken off")
     for lot in ("L-WRONG", "L-NEXT"):
         plant.recall(lot, 0)

@@ -142,12 +142,12 @@ def test_the_desks_file_is_not_opened(its: Watched) -> None:
     expect(found, file_bytes=0, log_bytes=0, up=1, watch_source_up__file=1)
 
 
-# --- What senders and tracedesk-untraced say of themselves
+# --- What senders say of themselves
 
 
 @pytest.fixture
 def status(its: Watched) -> Iterator[pathlib.Path]:
-    """The status files of two senders and of untraced work."""
+    """The status files of two senders."""
     folder = its.room / "status"
     folder.mkdir()
     first: dict[str, Any] = {
@@ -160,23 +160,22 @@ def status(its: Watched) -> Iterator[pathlib.Path]:
         "Waiting": 3,
     }
     second = {**first, "Sender": "m2", "Machines": {}, "OldestWaiting": None, "Waiting": 0}
-    untraced = {"At": AT, "Decided": [], "Undecided": [{}, {}], "Version": 1}
-    for name, told in (("m1", first), ("m2", second), ("untraced", untraced)):
+    for name, told in (("m1", first), ("m2", second)):
         (folder / f"{name}.json").write_text(json.dumps(told))
     yield folder
     shutil.rmtree(folder)
 
 
 def of_senders(found: Metrics) -> Metrics:
-    names = ("sender_", "interlock_", "untraced_")
+    names = ("sender_", "interlock_")
     return {name: value for name, value in found.items() if name.startswith(names)}
 
 
 def test_without_senders_nothing_is_told_of_them(its: Watched) -> None:
-    expect(its.metrics(), watch_source_up__status=1, untraced_undecided=None)
+    expect(its.metrics(), watch_source_up__status=1, sender_waiting__m1=None)
 
 
-def test_senders_and_untraced_work_are_told(its: Watched, status: pathlib.Path) -> None:
+def test_senders_are_told(its: Watched, status: pathlib.Path) -> None:
     found, told = its.look()
     assert "watch: status: " not in told
     assert of_senders(found) == {
@@ -189,8 +188,6 @@ def test_senders_and_untraced_work_are_told(its: Watched, status: pathlib.Path) 
         "sender_oldest_waiting_timestamp_seconds{m1}": SECOND,
         "interlock_go{m1,M1}": 1,
         "interlock_go{m1,M2}": 0,
-        "untraced_undecided": 2,
-        "untraced_timestamp_seconds": SECOND,
     }
 
 
@@ -208,7 +205,7 @@ def test_a_status_that_is_spoilt_hides_no_other(
 ) -> None:
     (status / "m1.json").write_text(SPOILT[name])
     found, told = its.look()
-    expect(found, watch_source_up__status=0, untraced_undecided=2, sender_waiting__m2=0)
+    expect(found, watch_source_up__status=0, sender_waiting__m2=0)
     assert "m1.json" in told
 
 

@@ -229,7 +229,7 @@ def begun(
     archive: DeskTables, checksum: str, at: int | None = None
 ) -> tuple[list[str | Setup], Carrier]:
     """The messages of a new desk that begins where an archived one with this checksum ended, and
-    who tells what is not in them. It has the archived desk's newest head."""
+    who tells what is not in them."""
     if archive.minute is None:
         raise NotCarried("it has accepted no command, so there is nothing to carry over")
     end = archive.minute if at is None else min(at, archive.minute)
@@ -238,13 +238,12 @@ def begun(
     carrier.all()
     if at is not None and at > end:
         messages.say(at, "ClockSet")
-    names = [(archive.numbers[uid], uid, model.SOURCE, 0) for uid in archive.heads]
     room = (
         max(0, archive.greatest - len(messages.lines)) // 2
     )  # a desk of few commands has room for its own
     archive.unknown = len(archive.known) - min(room, KNOWN_IN_ALL, len(archive.known))
     archive.known = archive.known[: len(archive.known) - archive.unknown]
-    messages.say_known([*names, *archive.known])
+    messages.say_known(archive.known)
     return messages.lines, carrier
 
 

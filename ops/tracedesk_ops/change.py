@@ -218,7 +218,6 @@ def take_over(line: LineFolder, folder: Path, audit: sealing.Audit) -> Sealed:
             sealing.put(line, shutil.copyfile(path, work / "archive"))
         for path in aside:
             keep_in_lost(line, whole_copy(path, work))
-        take_book(line, folder)
         if plant.is_open(folder / "desk"):
             raise NotChanged(f"a run has {folder}/desk open: stop it, and ask again")
         sealing.copied(folder / "desk", work / "desk", audit)
@@ -232,15 +231,6 @@ def take_over(line: LineFolder, folder: Path, audit: sealing.Audit) -> Sealed:
             os.replace(new, line.desk)
             files.keep(line.path)
         return made
-
-
-def take_book(line: LineFolder, folder: Path) -> None:
-    """Copies the untraced work of an older folder, and the note of how many rows that has."""
-    for name in ("archive/untraced.csv", "untraced/collected.json"):
-        new = line.path / name.replace("archive", line.sealed.name)
-        if (folder / name).is_file() and not new.exists():
-            new.parent.mkdir(exist_ok=True)
-            shutil.copyfile(folder / name, new)
 
 
 def files_below(archive: Path) -> list[Path]:

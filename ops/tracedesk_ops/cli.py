@@ -57,7 +57,7 @@ import pathlib
 import sys
 from collections.abc import Callable, Sequence
 
-from tracedesk_ops import change, check, desk_tables, heads, lineage, options, places
+from tracedesk_ops import change, check, desk_tables, lineage, options, places
 from tracedesk_ops import plant, reader_of, rollover, sealing, successor
 from tracedesk_ops.line import Busy, LineFolder, NotALine
 from tracedesk_ops.sealed import Sealed
@@ -76,9 +76,8 @@ def audit_of(asked: argparse.Namespace) -> sealing.Audit:
 def seal(asked: argparse.Namespace) -> int:
     """Seals the desk, and takes away what is superfluous then."""
     line: LineFolder = asked.line
-    heads.record(line.sealed)  # a call that is cut off here has sealed nothing, and says nothing
     made = sealing.seal(line, audit_of(asked))
-    faults = [*swept(line, made), *heads.faults_of(line)]
+    faults = swept(line, made)
     plant.write_out(f"{made.path}: lawful {made.commands}\n")
     return told(faults, SEE_TO_IT)
 
@@ -101,7 +100,6 @@ def look(asked: argparse.Namespace) -> int:
         hindrances = check.hindrances(line.desk, audit_of(asked))
         faults = [*found.faults, *(its.text() for its in found.lacked)]
         faults += check.chain_faults(asked.program, found)
-        faults += [] if hindrances else heads.faults_of(line)
     if not told([*hindrances, *faults], NO):
         commands = sum(file.commands for file in found.chain)
         plant.write_out(f"{line.path}: sound, {len(found.chain)} files, {commands} commands\n")

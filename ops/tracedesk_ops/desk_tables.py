@@ -13,7 +13,7 @@ from typing import Any, NamedTuple
 
 from tracedesk.limits import GREATEST_LABEL
 
-from tracedesk_ops import copies, heads, model, sealed
+from tracedesk_ops import copies, sealed
 
 FLOOR_LIFE = {
     "1": None,
@@ -28,7 +28,6 @@ FLOOR_LIFE = {
 # again
 KNOWN = 1_000
 TABLES = ("accepted", "part", "alternate", "sheet_row", "selected", "reel", "mount", "board")
-OWN = "SELECT uid, number FROM accepted WHERE source = ? AND command = 'ClockSet'"
 SHEETS = """SELECT product, machine, slot, part, designators FROM sheet_row
     ORDER BY product, machine, place"""
 MOUNTS = "SELECT machine, slot, reel FROM mount ORDER BY machine, slot, since"
@@ -103,8 +102,6 @@ class DeskTables:
             self.sheets.setdefault((product, machine), []).append(row)
         self.selected = dict(rows("SELECT machine, product FROM selected ORDER BY machine"))
         self.read_reels(rows)
-        self.heads = heads.recorded_in(database)[-1:]  # the newest one
-        self.numbers = dict(rows(OWN, model.SOURCE))  # of its heads, by their UniqueIDs
         begun = sealed.begun_with(database, sealed.begun_from(database), "main")
         self.known = known(database, begun)
         self.unknown = 0  # older ones
@@ -124,8 +121,8 @@ class DeskTables:
 
 def known(database: sqlite3.Connection, begun: int) -> list[Known]:
     """The last UniqueIDs of each source, the newest first: their number, source and own minute.
-    What the desk was begun with, and its heads, are left out, but not the UniqueIDs of its own
-    archive that it was told then: those are older than the rest, the newest first.
+    What the desk was begun with is left out, but not the UniqueIDs of its own archive that it was
+    told then: those are older than the rest, the newest first.
     """
     ((first, source),) = database.execute(
         "SELECT max(uid), max(source) FROM accepted WHERE number = 1"
@@ -134,8 +131,8 @@ def known(database: sqlite3.Connection, begun: int) -> list[Known]:
     return database.execute(
         """
         WITH those AS (SELECT *, iif(number > ?1, number, -number) AS turn FROM accepted
-            WHERE NOT (number <= ?1 AND source = ?2 AND uid LIKE ?3) AND NOT (source = ?4 AND command = 'ClockSet'))
+            WHERE NOT (number <= ?1 AND source = ?2 AND uid LIKE ?3))
         SELECT number, uid, source, own FROM (SELECT *, row_number() OVER (PARTITION BY source ORDER BY turn DESC) AS place FROM those)
-        WHERE place <= ?5 ORDER BY turn DESC""",
-        [begun, source, numbered, model.SOURCE, KNOWN],
+        WHERE place <= ?4 ORDER BY turn DESC""",
+        [begun, source, numbered, KNOWN],
     ).fetchall()

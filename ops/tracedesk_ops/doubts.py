@@ -1,31 +1,29 @@
 """What is around a line's traces: untraced work, and pieces that may be of another reel than the
 desk has it (tapes.py). For ops/tracedesk-recall and ops/tracedesk-plant-load.
 
-A board in work that the desk refused, or of which a machine names another reel, stays in doubt
-whatever somebody decides about it, unless it was scrapped.
+A board whose report the line's server refused, or of which a machine names another reel, stays in
+doubt whatever somebody decides about it, unless it was scrapped.
 """
 from __future__ import annotations
 
 import contextlib
-import datetime
 import functools
 import json
 import pathlib
 import sqlite3
 import time
-from collections.abc import Callable, Iterator
+from collections.abc import Callable, Iterable, Iterator
 from typing import NamedTuple
 
 from tracedesk import records
-from tracedesk_ops import catalogue, contradictions, files, heads, model, splices
-from tracedesk_ops import untraced
+from tracedesk_ops import catalogue, files, model, splices, untraced
 from tracedesk_ops.firstlook import Question
-from tracedesk_ops.line import LineFolder
 from tracedesk_ops.sealed import FilesFault
 from tracedesk_ops.tapes import LOADED, DoubtfulPiece, Refusal, Tapes, Work
+from tracedesk_ops.untraced import Decision, Noted
 
 Opener = Callable[[], contextlib.AbstractContextManager[sqlite3.Connection]]
-Decisions = dict[str, untraced.Record]  # the newest one of each record, by its id
+Decisions = dict[str, Decision]  # the newest one about each entry, by its id
 DIFFERS = "the machine names another reel"
 UNKNOWN = f"{DIFFERS}, which the desk doesn't know"
 UNCOMPARED = "the machine's reels can't be compared with the desk's"
@@ -34,13 +32,15 @@ TAKEN_OFF = "taken off"  # what became of a refused reel from which nothing was 
 # why a load is refused whose slot is empty
 OF_AN_EMPTY_SLOT = "UnknownReel ReelMounted ReelEmpty WrongPart NotBaked Expired".split()
 NO_PIECES = ("MaterialsScrapped", "WorkCompleted")  # reports that place none on a board
+LONGEST = 1 << 20  # bytes of a sender's status
+OLDER = ("sealed/untraced.csv", "untraced/*.json")  # in the folder of a line of 1.0.0
 
 
 class Doubts(NamedTuple):
     """What is known of a line besides its traces: untraced work, each with its decision or none and
     the reels that were on its machine; pieces in doubt; and what could not be looked at."""
 
-    works: list[tuple[untraced.Record, untraced.Record | None, str]]
+    works: list[tuple[Noted, Decision | None, str]]
     pieces: list[DoubtfulPiece]
     faults: list[str]
     tapes: Tapes
@@ -50,50 +50,52 @@ def look(
     folder: pathlib.Path, archives: list[catalogue.Archive], question: Question | None = None
 ) -> Doubts:
     """Looks at what is around a line's files, which are in the order of their chain, and what their
-    books say of the reels of machines; at splices if a question has a tolerance.
+    books say; at splices if a question has a tolerance.
     """
-    archive = LineFolder(folder).sealed
-    book = untraced.read(archive)
-    decided = untraced.decisions(book.records)
-    works = [it for it in untraced.refused(book.records) if untraced.is_work(it)]
-    differing = untraced.differing(book.records)
-    tapes, contradicting = Tapes(), contradictions.Contradictions()
+    tapes, books = Tapes(), untraced.Books()
     pieces: list[DoubtfulPiece] = []
-    faults: list[str] = []
+    faults = [*older(folder), *waiting(folder / model.STATUS)]
     try:
         files: dict[str, Opener] = {
             it.file: functools.partial(catalogue.unchanged, folder, it) for it in archives
         }
-        read(files, tapes, contradicting)
-        differing += contradicting.records
-        decided |= contradicting.decisions
-        tapes.judge(refusals_of(book.records, decided), map(work_of, works))
-        pieces = [*placed(tapes, files), *told(tapes, works, differing, decided)]
+        read(files, tapes, books)
+        works = map(work_of, filter(untraced.is_work, books.entries))
+        tapes.judge(refusals_of(books.entries, books.decisions), works)
+        pieces = [*placed(tapes, files), *told(tapes, books.entries, books.decisions)]
         if question and question.within:
             pieces += splices.near(tapes, files, tapes.asked(question), question.within)
-        recorded = heads.recorded(LineFolder(folder), [it.path for it in archives if it.path])
-        faults += heads.lacking(LineFolder(folder), recorded)
     except (catalogue.CatalogueError, FilesFault, OSError, sqlite3.Error) as fault:
         faults.append(f"{folder}: whether pieces may be of other reels isn't known: {fault}")
-    return Doubts(
-        [
-            *((it, decided.get(it.id), tapes.reels_on(work_of(it))) for it in works),
-            *((it, decided[it.id], it.told["DeskReel"]) for it in differing if it.id in decided),
-        ],
-        sorted(pieces, key=lambda it: (it.minute, it.board, it.designator)),
-        [*book.faults, *faults, *waiting(archive.with_name(model.STATUS))],
-        tapes,
-    )
+    pieces.sort(key=lambda it: (it.minute, it.board, it.designator))
+    return Doubts([*worked(tapes, books)], pieces, faults, tapes)
 
 
-def read(
-    files: dict[str, Opener], tapes: Tapes, contradicting: contradictions.Contradictions
-) -> None:
+def worked(tapes: Tapes, books: untraced.Books) -> Iterator[tuple[Noted, Decision | None, str]]:
+    """Untraced work, and what was decided about boards of which a machine names other reels."""
+    decided = books.decisions
+    for it in books.entries:
+        if untraced.is_work(it):
+            yield it, decided.get(it.id), tapes.reels_on(work_of(it))
+        elif untraced.is_contradiction(it) and it.id in decided:
+            yield it, decided[it.id], it.reel
+
+
+def older(folder: pathlib.Path) -> Iterator[str]:
+    """Untraced work that a line of 1.0.0 had: no book has it, and no recall reads it any more."""
+    for path in (path for name in OLDER for path in sorted(folder.glob(name))[:1]):
+        yield (
+            f"{path}: it has untraced work of 1.0.0, which recalls don't read any more: look what"
+            " became of its boards, then move it away"
+        )
+
+
+def read(files: dict[str, Opener], tapes: Tapes, books: untraced.Books) -> None:
     """Reads a line's files, of which one is open at a time: there may be many."""
     for name, opened in files.items():
         with opened() as database:
             tapes.read(name, database)
-            contradicting.read(name, database)
+            books.read(name, database)
 
 
 def placed(tapes: Tapes, files: dict[str, Opener]) -> Iterator[DoubtfulPiece]:
@@ -103,87 +105,64 @@ def placed(tapes: Tapes, files: dict[str, Opener]) -> Iterator[DoubtfulPiece]:
             yield from tapes.pieces(place, database)
 
 
-def told(
-    tapes: Tapes,
-    works: list[untraced.Record],
-    differing: list[untraced.Record],
-    decided: Decisions,
-) -> Iterator[DoubtfulPiece]:
+def told(tapes: Tapes, those: Iterable[Noted], decided: Decisions) -> Iterator[DoubtfulPiece]:
     """Those in doubt by what machines name, and by what was decided."""
-    for record in differing:
-        if record.id not in decided or untraced.is_shipped(decided[record.id]):
-            yield from contradicted(tapes, record)
-    for record in works:
-        if untraced.is_shipped(decided.get(record.id)):
-            yield from kept(tapes, record)
+    for it in those:
+        by = decided.get(it.id)
+        if untraced.is_contradiction(it) and (by is None or untraced.is_shipped(by)):
+            yield from contradicted(tapes, it)
+        elif untraced.is_work(it) and untraced.is_shipped(by):
+            yield from kept(tapes, it)
 
 
-def contradicted(tapes: Tapes, record: untraced.Record) -> Iterator[DoubtfulPiece]:
+def contradicted(tapes: Tapes, it: Noted) -> Iterator[DoubtfulPiece]:
     """The pieces of which a machine names another reel than the desk, or none that can be compared.
     They are of one of the two, if the desk knows both.
     """
-    its, minute = record.told, minute_of(record.told["At"]) or 0
-    is_known = its["MachineReel"] in tapes.cards
-    why = DIFFERS if is_known else UNKNOWN if its["MachineReel"] else UNCOMPARED
-    why = f"{why} ({record.id[:8] if record.text else record.id})"
-    for name in map(str, its["Designators"]):
-        where = its["Board"], name, its["Machine"], "", minute
-        piece = tapes.piece(where, its["DeskReel"], [its["MachineReel"]], why)
+    its = it.entry
+    is_known = its.reel in tapes.cards
+    why = f"{DIFFERS if is_known else UNKNOWN if its.reel else UNCOMPARED} ({it.id})"
+    for name in it.designators:
+        where = its.board, name, its.machine, "", it.done or 0
+        piece = tapes.piece(where, it.reel, [its.reel], why)
         yield piece._replace(parts=frozenset()) if is_known else piece
 
 
-def kept(tapes: Tapes, record: untraced.Record) -> Iterator[DoubtfulPiece]:
+def kept(tapes: Tapes, it: Noted) -> Iterator[DoubtfulPiece]:
     """A board that was worked though the desk refused the report, and is no scrap: it may have each
     reel that was on the machine, or refused on its tape.
     """
-    if untraced.word_of(record) not in NO_PIECES:
-        work = work_of(record)
+    if it.word not in NO_PIECES:
+        work = work_of(it)
         reels = [reel for tape in tapes.during(work) for reel in tape.reels]
-        where = untraced.said(record)[4], "", work.machine, work.slot, work.first
-        yield tapes.piece(where, "", reels, f"{KEPT} ({record.id[:8]})")
+        where = untraced.said(it)[4], "", work.machine, work.slot, work.first
+        yield tapes.piece(where, "", reels, f"{KEPT} ({it.id})")
 
 
-# --- Records of what was refused
+# --- What was refused
 
 
-def refusals_of(those: list[untraced.Record], decided: Decisions) -> Iterator[Refusal]:
+def refusals_of(those: Iterable[Noted], decided: Decisions) -> Iterator[Refusal]:
     """The loads, splices and unloads that were refused, but those of which somebody decided that
     the reel was taken off.
     """
-    for record in untraced.refused(those):
-        by = decided.get(record.id)
-        if not untraced.is_work(record) and not (by and by.told["Became"] == TAKEN_OFF):
-            work, why = work_of(record), record.told["Answer"].get("Refusal")
-            minute = minute_of(str(record.told["Message"].get("TimeStamp")))
-            reel = str(untraced.body_of(record).get("Reel", ""))
-            is_load = untraced.word_of(record) == LOADED
-            was_empty = why in OF_AN_EMPTY_SLOT if is_load else why == "SlotEmpty"
-            at = work.last if minute is None else minute
-            yield Refusal((work.machine, work.slot), at, reel, record.id[:8], was_empty)
+    for it in filter(untraced.is_handling, those):
+        by, why = decided.get(it.id), it.entry.word
+        if not (by and by.became == TAKEN_OFF):
+            work = work_of(it)
+            was_empty = why in OF_AN_EMPTY_SLOT if it.word == LOADED else why == "SlotEmpty"
+            at = work.last if it.done is None else it.done
+            yield Refusal((work.machine, work.slot), at, it.text("Reel"), it.id, was_empty)
 
 
-def minute_of(text: str) -> int | None:
-    """The minute of a time as a message has it, none where that can't be read."""
-    try:
-        then = datetime.datetime.fromisoformat(text)
-        utc = then.astimezone(datetime.timezone.utc).replace(tzinfo=None) if then.tzinfo else then
-    except (ValueError, OverflowError):  # the second of a year that UTC doesn't have
-        return None
-    return (utc - catalogue.EPOCH) // datetime.timedelta(minutes=1)
-
-
-def work_of(record: untraced.Record) -> Work:
-    message, body = record.told["Message"], untraced.body_of(record)
-    designators, quantity = body.get("Designators"), body.get("Quantity")
+def work_of(it: Noted) -> Work:
+    designators, quantity = it.body.get("Designators"), it.body.get("Quantity")
     count = quantity if isinstance(quantity, int) and not isinstance(quantity, bool) else 0
     if isinstance(designators, list):
         count = len(designators)
-    minutes = sorted(
-        it
-        for it in map(minute_of, (str(message.get("TimeStamp")), record.told["At"]))
-        if it is not None
-    ) or [0, 1 << 40]
-    return Work(str(body.get("Machine")), str(body.get("Slot", "")), count, minutes[0], minutes[-1])
+    minutes = it.minutes() or [0, 1 << 40]
+    machine = it.entry.machine or it.text("Machine")
+    return Work(machine, it.text("Slot"), count, minutes[0], minutes[-1])
 
 
 # --- Senders
@@ -195,7 +174,7 @@ def waiting(folder: pathlib.Path) -> Iterator[str]:
     """
     for file in sorted(folder.glob("[!.]*.json")) if folder.is_dir() else ():
         try:
-            told = json.loads(records.shallow(files.read_plain(file, untraced.LONGEST)))
+            told = json.loads(records.shallow(files.read_plain(file, LONGEST)))
             oldest = told.get("OldestWaiting")
             now = time.time() // 60  # or later, if this machine's clock was set back
             if oldest and max(now, minute_said(told["At"])) - minute_said(oldest) > 1:
@@ -214,6 +193,6 @@ def waiting(folder: pathlib.Path) -> Iterator[str]:
 
 def minute_said(text: str) -> int:
     """The minute of a time; a ValueError if it is none."""
-    if (minute := minute_of(text)) is None:
+    if (minute := untraced.minute_of(text)) is None:
         raise ValueError(f"{text} is no time")
     return minute

@@ -80,9 +80,13 @@ def told(text: str) -> tuple[list[BookEntry], dict[int, str]]:
     return found, states
 
 
-def plain(told: str) -> str:
+def raw(told: str) -> bytes:
     """What was said, as it came: a text that begins with a backslash is kept by its bytes."""
-    return bytes.fromhex(told[2:]).decode() if told.startswith("\\x") else told
+    return bytes.fromhex(told[2:]) if told.startswith("\\x") else told.encode()
+
+
+def plain(told: str) -> str:
+    return raw(told).decode()
 
 
 def stock(entry: BookEntry) -> Stock:

@@ -104,23 +104,7 @@ class Tables:
                 for said, board, *names in said_of(line, folder, found)
             ]
             cursor.executemany("INSERT INTO doubt VALUES (%s, %s, %s, %s, %s, %s)", rows)
-        self.take_records(line, folder)
         self.do("UPDATE line SET refused = '' WHERE name = %s", line)
-
-    def take_records(self, line: str, folder: pathlib.Path) -> None:
-        """Keeps which records of untraced work the folder has; a Fault if it lacks one that an
-        earlier load found, so that no older folder takes a doubt back.
-        """
-        known = untraced.read(LineFolder(folder).sealed)
-        ids = [record.id for record in known.records]
-        ((before,),) = self.do("SELECT records FROM line WHERE name = %s", line)
-        if lacking := {*before} - {*ids}:
-            raise plant.Fault(
-                "; ".join(known.faults)
-                or f"{folder}: it lacks {len(lacking)} records of untraced work that are loaded:"
-                f" load the newest folder. If nothing has them any more:{ANEW.format(line)}"
-            )
-        self.do("UPDATE line SET records = %s WHERE name = %s", ids, line)
 
     def want_newer(self, line: str, folder: pathlib.Path, found: lineage.Lineage) -> None:
         """A Fault if a file of the line that is loaded isn't in its folder, and no file of the

@@ -34,8 +34,6 @@ tracedesk_sender_aside gauge Messages that the sender has set aside, by its stat
 tracedesk_sender_oldest_waiting_timestamp_seconds gauge When the oldest message that waits came to the sender, by its status. None where none waits.
 tracedesk_sender_timestamp_seconds gauge When the sender wrote its status.
 tracedesk_interlock_go gauge 1 where the sender's interlock lets the machine go, 0 where it stops it, by its status.
-tracedesk_untraced_undecided gauge Refused reports of work about which nobody decided, by what tracedesk-untraced collect wrote last.
-tracedesk_untraced_timestamp_seconds gauge When tracedesk-untraced collect wrote that.
 tracedesk_watch_source_up gauge 1 where all of this source could be read for this file, else 0, and metrics of it are missing.
 tracedesk_watch_timestamp_seconds gauge When this file was written.
 """

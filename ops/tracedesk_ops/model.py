@@ -1,7 +1,6 @@
 """The names by which the files of a line know one another, and by which a desk is asked for them.
 
-A desk names, in its first command, the sealed file from which it was begun. It also records heads
-of the line's untraced.csv: accepted `ClockSet`s of the source `tracedesk`, which change nothing.
+A desk names, in its first command, the sealed file from which it was begun.
 
     first_uid("9f2c..")      # what the desk has that was begun from this file
 """
@@ -9,8 +8,7 @@ from __future__ import annotations
 
 SOURCE = "tracedesk"
 SEALED = "sealed"  # the folder of a line's sealed files
-INBOX = "untraced"  # next to it: where senders put records of untraced work
-STATUS = "status"  # next to it: what senders and tracedesk-untraced say of themselves
+STATUS = "status"  # next to it: what senders say of themselves
 DIGITS = 24  # of a file's SHA-256: in its name, and in the desk that was begun from it
 LONGEST_NAME = 59  # letters of a line's name
 

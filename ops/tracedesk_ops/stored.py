@@ -11,11 +11,12 @@ from __future__ import annotations
 
 import json
 import re
+import secrets
 from typing import Any
 
 from tracedesk import forms, words
 
-from tracedesk_ops import catalogue
+from tracedesk_ops import catalogue, model
 
 Body = dict[str, Any]  # of a message
 NUMBER = re.compile(r"0|[1-9][0-9]{0,17}")
@@ -103,3 +104,12 @@ def line(uid: str, source: str, minute: int, word: str, said: Body) -> str:
         "MessageBody": said,
     }
     return json.dumps(envelope, separators=(",", ":"))
+
+
+def question(uid: str, minute: int = 0) -> str:
+    """A message that every desk refuses, and which tells whether it has accepted the UniqueID, or
+    whether the minute is too far ahead of it: it seals a reel that nobody has. Such a refusal is no
+    entry of the line's book.
+    """
+    body = {"Reel": f"none-{secrets.token_hex(16)}"}
+    return line(uid, model.SOURCE, minute, "ReelSealed", body)

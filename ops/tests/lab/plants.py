@@ -16,7 +16,7 @@ from tracedesk_ops import catalogue
 
 PIECES = "line, file, board, designator, part, lot, reel, machine, slot, overdue, at"
 TABLES = {
-    "line": "name, refused, records",
+    "line": "name, refused",
     "file": "line, name, sha256, place, begun, commands, entries, rows, pieces, until, sealed",
     "known": "line, lot, part, reel",
     "doubt": "line, said, board, parts, reels, lots",

@@ -12,13 +12,13 @@ from unittest import mock
 
 from lab.tools import Ended, run_tool
 from tracedesk import desk as desks
-from tracedesk_ops import around, catalogue, chains, collecting, doubts, files, sealed, untraced
+from tracedesk_ops import around, catalogue, chains, doubts, entries, files, sealed, untraced
 from tracedesk_ops.line import LineFolder
 from tracedesk_ops.firstlook import Line, Question
 from tracedesk_ops.recalls.recall import Recall
 from tracedesk_ops.recalls.surveyed import Surveyed
 from truth.run import ROUNDS, SETTLE, SLOTS, Run
-from truth.world import BEGIN, Clock, Killed, Killer, Place
+from truth.world import BEGIN, Clock, Place
 
 LINE = "L1"
 TABLES = ("pieces", "untraced", "doubtful")
@@ -33,6 +33,8 @@ def wrong(run: Run, answer_of: Callable[[str], Any]) -> Iterator[str]:
         run.traced += len(told.pieces)
         truth = {(board, name) for board, name, reel in run.truth if run.reels[reel][0] == lot}
         listed = {(piece.board, piece.designator) for piece in told.pieces}
+        for those in (truth, listed):
+            those -= {its for its in those if its[0] in run.scrapped}
         undecided = {row[3] for row in told.undecided()}
         named = {row[3] for row in told.untraced}
         if not run.names_reels:  # else each piece has two witnesses
@@ -119,13 +121,10 @@ class Batch:
                 event()
             for run in self.runs:
                 run.minute(minute >= ROUNDS - SETTLE)
-            if self.random.random() < 0.3:
-                self.collect()
         Clock.minute += 1
         for run in self.runs:
             run.settle()
         self.desk.close()
-        self.collect()
 
     def events(self) -> dict[int, list[Callable[[], None]]]:
         """When the desk is killed, copied, restored and rolled over."""
@@ -141,34 +140,32 @@ class Batch:
         return found
 
     def copy(self) -> None:
-        self.copied = time.time()
+        self.copied, self.minute = time.time(), Clock.minute
         expect_done(self.place.seal())
         self.counts["copies"] += 1
 
     def restore(self) -> None:
         """A sealed file takes the desk's place, and each sender sends again what was accepted
-        since. In that order some of it is refused, and becomes untraced work: so a person moves the
-        old desk elsewhere, as a recall asks for."""
+        since. In that order some of it is refused, and becomes untraced work. A person looks at the
+        entries of the old desk's book, and moves it elsewhere, as a recall asks for."""
         expect_done(self.place.restore())
+        kept = len(entries.of(self.place.file))
         for run in self.runs:
             for name in run.in_any_order():
                 run.sources[name].end()
                 run.sources[name].spool.again_since(self.copied - 1)
                 run.send(name)
+        for lost in (self.place.folder / "lost").glob("*.desk"):
+            machines = {its.machine for its in entries.of(lost, kept)}
+            for run in self.runs:
+                if run.name in machines:
+                    run.begin_again(self.minute)
         (self.place.folder / "lost").rename(self.place.folder / "moved elsewhere")
         self.counts["restores"] += 1
 
     def roll_over(self) -> None:
         expect_done(self.place.rollover("--with-board-in-work"))
         self.counts["roll-overs"] += 1
-
-    def collect(self) -> None:
-        """Records get their rows; sometimes the tool is killed amid that."""
-        for kill in [self.random.randint(0, 25)] * (self.random.random() < 0.3) + [None]:
-            Killer.left = kill
-            with contextlib.suppress(Killed):
-                collecting.collect(self.place.archive)
-            Killer.left = None
 
     # --- What recalls say
 
@@ -271,8 +268,7 @@ class Batch:
         for work, by, _ in its.works:
             said = untraced.said(work)
             if said[3] == run.name:
-                time_of = work.told["At"]
-                print("refused", time_of, said[2:8], "decided" if by else "")
+                print("refused", said[2:8], "decided" if by else "")
         for happened in run.told:
             print("really", *happened)
 
@@ -289,9 +285,7 @@ class LookedOnce:
     def __call__(self, folder: Any, archives: Any, *_: Any) -> Any:
         if self.told is None:
             self.told = self.look(folder, archives, self.all)
-            self.works = by_machine(
-                self.told.works, lambda work: untraced.body_of(work[0]).get("Machine")
-            )
+            self.works = by_machine(self.told.works, lambda work: work[0].entry.machine)
             self.pieces = by_machine(self.told.pieces, lambda piece: piece.machine)
         works, pieces = self.works[self.machine], self.pieces[self.machine]
         return self.told._replace(works=works, pieces=pieces)

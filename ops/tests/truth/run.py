@@ -4,9 +4,7 @@ import random
 from typing import Any, Optional
 
 from tracedesk import desk as desks
-from tracedesk import records
-from tracedesk import untraced as places
-from tracedesk_ops import doubts
+from tracedesk_ops import doubts, entries, untraced
 from truth.sources import Source
 from truth.world import BEGIN, Clock, Place
 
@@ -31,11 +29,11 @@ class Run:
         self.names_reels = self.random.random() < 0.5  # the machine, in its installs
         self.swaps = 0
         self.completed: Optional[tuple[str, bytes]] = None  # the last board, and its start
-        self.inbox = places.Place(str(place.untraced), lambda _: desk)
-        self.decisions = places.Place(str(place.decided), lambda _: desk)
-        inbox = None if planted else self.inbox
+        self.desk = desk
+        self.worked: dict[str, int] = {}  # the minute of each board
+        self.scrapped: set[str] = set()  # boards that nobody has any more
         self.sources = {
-            its: Source(place.spools / f"{name}-{its}", f"{name}-{its}", desk, inbox)
+            its: Source(place.spools / f"{name}-{its}", f"{name}-{its}", desk)
             for its in ("machine", "tablet")
         }
         self.is_out = {its: False for its in self.sources}
@@ -156,14 +154,30 @@ class Run:
     def taken_off(self) -> None:
         """Somebody decides of the refused reel that it was taken off."""
         kept = self.sources["tablet"].spool
-        refused = kept.kept(kept.names("aside")[-1]).record
-        self.decided(refused, doubts.TAKEN_OFF)
+        if names := kept.names("aside"):
+            self.decided(self.entries_of(kept.message(names[-1]))[-1:], doubts.TAKEN_OFF)
 
-    def decided(self, of: str, became: str) -> None:
-        """A person decides about a record, at the line."""
-        more = {"Became": became, "Of": of, "Reason": "saw it"}
-        name, text = records.record("decided", "A. Person", Clock.text(), **more)
-        self.decisions.put(f"{name}.json", text)
+    def book(self) -> list[entries.BookEntry]:
+        """What the line's book has of this machine."""
+        _, body, _ = self.desk.once("GET", "/line/book?after=0", None, {})
+        return [its for its in entries.told(body.decode())[0] if its.machine == self.name]
+
+    def entries_of(self, message: dict[str, Any]) -> list[int]:
+        """The entries of a refused message; one that is like an open one has none of its own."""
+        body = message["MessageBody"]
+        names = [body.get(name, "") for name in ("Board", "Slot", "Reel")]
+        return [
+            its.n
+            for its in self.book()
+            if its.kind in untraced.REFUSALS
+            and (its.uid == message["UniqueID"] or [its.board, its.slot, its.reel] == names)
+        ]
+
+    def decided(self, numbers: list[int], became: str) -> None:
+        """A person decides about entries of the book."""
+        for of in numbers:
+            said = {"Of": of, "Became": became, "By": "A. Person", "Reason": "saw it"}
+            self.desk.once("POST", "/line/decisions", json.dumps(said).encode(), {})
 
     def change(self, slot: str) -> None:
         """A reel is taken off a slot, and another one put there. Some forget to scan what they take
@@ -184,6 +198,7 @@ class Run:
     def board(self) -> None:
         """A board is worked, in two parts."""
         self.boards += 1
+        self.worked[f"{self.name}-B{self.boards}"] = Clock.minute
         board, machine = f"{self.name}-B{self.boards}", self.sources["machine"]
         at = {"Machine": self.name, "Board": board}
         self.begin_anew()
@@ -232,6 +247,8 @@ class Run:
         again. Planted: all of it is said once more, also reports of work."""
         machine = self.sources["machine"].spool
         if self.planted:
+            numbers = [its.n for its in self.book() if its.kind in untraced.REFUSALS]
+            self.decided(numbers, "sent again")
             for name, source in self.sources.items():
                 kept = source.spool
                 for it in kept.names("aside"):
@@ -239,7 +256,7 @@ class Run:
                     kept.drop([it])
                 self.send(name)
         elif names := [name for name in machine.names("aside") if machine.is_report(name)]:
-            self.decided(machine.kept(names[-1]).record, "reworked")
+            self.decided(self.entries_of(machine.message(names[-1]))[-1:], "reworked")
         if self.random.random() < 0.3:
             self.send_request_again()
 
@@ -251,6 +268,15 @@ class Run:
             if body.get("Reel") in self.slots.get(body.get("Slot"), ()):
                 tablet.again(names[-1:])
                 self.send("tablet")
+
+    def begin_again(self, minute: int) -> None:
+        """Entries of the book since this minute are missing, by which boards were in doubt: all of
+        these are scrapped, and each reel is taken off and scanned anew.
+        """
+        self.scrapped |= {board for board, at in self.worked.items() if at >= minute}
+        for slot in SLOTS:
+            self.slots[slot] = []
+            self.say("tablet", self.message("MaterialsUnloaded", Machine=self.name, Slot=slot))
 
     def settle(self) -> None:
         for source in self.in_any_order():

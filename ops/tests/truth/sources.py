@@ -5,7 +5,6 @@ from typing import Optional
 
 from tracedesk import desk as desks
 from tracedesk import sender, spool
-from tracedesk import untraced as places
 from truth.world import Killed, Killer
 
 
@@ -16,14 +15,8 @@ class Source:
     """A sender that stays: its spool, and a lock on that until it ends or is killed. A Spool and a
     Sender are made anew then, as by a new process."""
 
-    def __init__(
-        self,
-        folder: pathlib.Path,
-        name: str,
-        desk: desks.Desk,
-        inbox: Optional[places.Place],
-    ) -> None:
-        self.folder, self.name, self.desk, self.inbox = folder, name, desk, inbox
+    def __init__(self, folder: pathlib.Path, name: str, desk: desks.Desk) -> None:
+        self.folder, self.name, self.desk = folder, name, desk
         self.held = contextlib.ExitStack()
         self.begin()
         self.last = ""
@@ -50,10 +43,9 @@ class Source:
     def send_all(self) -> None:
         if self.sender is None:
             self.held.enter_context(self.spool.sending())
-            self.sender = sender.Sender(self.spool, self.desk, inbox=self.inbox)
+            self.sender = sender.Sender(self.spool, self.desk)
         while self.sender.send_waiting():
             pass
-        self.sender.line.look()
 
     def start_of(self, board: str) -> str:
         """The message by which the desk accepted the start of a board, if it did, by what is in the

@@ -8,7 +8,6 @@ from unittest import mock
 from lab.line import Line
 from tracedesk import desk as desks
 from tracedesk import records, spool
-from tracedesk import untraced as places
 from tracedesk_ops import catalogue
 
 BEGIN = 1_775_000_000 // 60  # the minute when a batch begins
@@ -38,7 +37,7 @@ class Killer:
 
 
 class Clock:
-    """The minute of a batch; records have it too."""
+    """The minute of a batch."""
 
     minute = BEGIN
 
@@ -63,8 +62,6 @@ def simulated() -> Iterator[None]:
             (records, "utc", Clock.text),
             # Nothing hangs here, so no thread looks at each request.
             (desks.Desk, "within", nothing),
-            # No thread: a sender that ends hands on what it has.
-            (places.Line, "begin", lambda _: None),
             (spool.Spool, "whole", Killer.counted(spool.Spool.whole)),
         ):
             held.enter_context(mock.patch.object(owner, name, its))
@@ -76,9 +73,8 @@ class Place(Line):
 
     def __init__(self, program: pathlib.Path, folder: pathlib.Path) -> None:
         super().__init__(program, folder)
-        self.untraced, self.spools = folder / "untraced", folder / "spools"
-        self.decided = folder / "decided"
-        for path in (self.archive, self.untraced, self.decided, self.spools):
+        self.spools = folder / "spools"
+        for path in (self.archive, self.spools):
             path.mkdir()
 
     def begin(self, messages: list[bytes]) -> None:

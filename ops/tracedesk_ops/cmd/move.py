@@ -50,12 +50,13 @@ from typing import Any, NamedTuple
 
 from tracedesk import Desk, GivenUp, NotTaken, NotThere, answers
 from tracedesk import words as reports
-from tracedesk.limits import FURTHEST_AHEAD
-from tracedesk_ops import catalogue, desks, entries, heads, options, places, plant, stored
+from tracedesk.limits import FURTHEST_AHEAD, GREATEST_MINUTE
+from tracedesk_ops import catalogue, desks, entries, options, places, plant, stored
 from tracedesk_ops.desk_tables import FLOOR_LIFE
 
 DONE, NO, NO_ANSWER, SEE_TO_IT = 0, 1, 3, 4
 SOURCE = "move"
+LAST_MINUTE = GREATEST_MINUTE  # too far ahead for each desk that has a minute
 PATIENCE = 60.0  # seconds for an answer
 LONGEST_IN_ID = 24  # bytes of a reel's name in UniqueIDs, which have 64 at most
 NO_ANSWERS = (GivenUp, NotTaken, OSError, http.client.HTTPException, ValueError, csv.Error)
@@ -170,7 +171,7 @@ def want_new(new: Desk, its: Move, at: str) -> None:
             f"ReelExists: {at} has a reel {its.called}, with {there.remaining} pieces left: if it"
             " is another one, or was there before, label it anew and say that by --as"
         )
-    if is_before(new, heads.LAST_MINUTE) and not is_before(new, its.begin + FURTHEST_AHEAD + 1):
+    if is_before(new, LAST_MINUTE) and not is_before(new, its.begin + FURTHEST_AHEAD + 1):
         raise NotMoved(
             f"ClockAhead: {its.card.reel} has been out for {its.out} minutes, so it has to begin at"
             f" {catalogue.spelled(its.begin)}, and {at} is later: bake it, and tell the old desk so"
@@ -183,7 +184,7 @@ def is_before(desk: Desk, minute: int) -> bool:
     """Whether a message of this minute is too far ahead of a desk's: one that it refuses in any
     case.
     """
-    question = heads.question(f"none-{secrets.token_hex(16)}", minute)
+    question = stored.question(f"none-{secrets.token_hex(16)}", minute)
     answer = desk.ask(question.encode())
     return isinstance(answer, answers.Refused) and answer.refusal == "TooFarAhead"
 

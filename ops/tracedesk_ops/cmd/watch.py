@@ -45,8 +45,8 @@ from typing import Any
 
 from tracedesk import Desk, NotTaken, NotThere, Refused
 from tracedesk import words as reports
-from tracedesk_ops import files, heads, metrics, model, options, places, plant
-from tracedesk_ops import reader_of, sealed_watch, untraced
+from tracedesk_ops import files, metrics, model, options, places, plant
+from tracedesk_ops import reader_of, sealed_watch, stored
 
 TO = pathlib.Path("/run/tracedesk-watch/metrics")
 SETUP = pathlib.Path("/etc/tracedesk/station/setup.json")
@@ -109,7 +109,7 @@ class Once(Desk):
 
     def has(self, uid: str) -> bool:
         """Whether the desk has accepted a UniqueID, by a message that it refuses in any case."""
-        answer = self.ask(heads.question(uid).encode())
+        answer = self.ask(stored.question(uid).encode())
         if not isinstance(answer, Refused):
             raise NotTaken(f"it can't be asked which desk it is: {answer}")
         return answer.refusal == "IdReused"
@@ -243,27 +243,21 @@ class Watch:
             yield "clock_commands", int(told["Number"]), {}
 
     def status(self) -> metrics.Samples:
-        """What each sender says of itself, and what is undecided. One that can't be read doesn't
-        hide the others.
-        """
+        """What each sender says of itself. One that can't be read doesn't hide the others."""
         spoilt = []
         folder = self.asked.db.with_name(model.STATUS)
         there = folder.glob("[!.]*.json") if is_there(folder) else ()
         for file in sorted(there):
             try:
-                yield from list(said_by(file.name, json.loads(file.read_bytes())))
+                yield from list(said_by(json.loads(file.read_bytes())))
             except FAULTS as fault:
                 spoilt.append(f"{file}: {str(fault) or repr(fault)}")
         if spoilt:
             raise plant.Fault("; ".join(spoilt))
 
 
-def said_by(name: str, told: dict[str, Any]) -> metrics.Samples:
-    """What the status of a sender, or that of tracedesk-untraced, says."""
-    if name == untraced.STATUS:
-        yield "untraced_undecided", len(told["Undecided"]), {}
-        yield "untraced_timestamp_seconds", second_of(told["At"]), {}
-        return
+def said_by(told: dict[str, Any]) -> metrics.Samples:
+    """What the status of a sender says."""
     sender = {"sender": str(told["Sender"])}
     yield "sender_waiting", int(told["Waiting"]), sender
     yield "sender_aside", int(told["Aside"]), sender
