@@ -1,4 +1,5 @@
 // Begins the page: its set-up, its store, its name, and then the station.
+import * as clock from "./clock.js";
 import { el, field } from "./dom.js";
 import { isName } from "./names.js";
 import { said } from "./say.js";
@@ -56,6 +57,7 @@ async function begin() {
     wrong(said(TEXTS.setup.wanting, { fault: said(TEXTS.setup[fault], told) }));
     return;
   }
+  clock.setZone(read.zone);
   try {
     await store.open();
     if (!navigator.locks || !crypto.randomUUID) {

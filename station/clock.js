@@ -3,8 +3,6 @@
 const APART = 5_000; // milliseconds: so far the tablet's two clocks are apart only after it
                       // slept, or after somebody set one
 
-const two = (number) => String(number).padStart(2, "0");
-
 let server = null; // milliseconds since 1970, by the server
 let at = 0; // of this page's steady clock, when it was said
 let wall = 0; // of the tablet's own clock, then
@@ -39,26 +37,36 @@ export function stamp(milliseconds) {
   return `${new Date(milliseconds).toISOString().slice(0, 19)}Z`;
 }
 
-/** Hours and minutes of the day where the tablet stands. */
-export function shown(milliseconds) {
-  const time = new Date(milliseconds);
-  return `${two(time.getHours())}:${two(time.getMinutes())}`;
+/** The form of a time in the plant's zone, as 2026-03-02 07:05; without one in the tablet's. */
+const formIn = (timeZone) =>
+  new Intl.DateTimeFormat("sv-SE", { dateStyle: "short", timeStyle: "short", timeZone });
+let form = formIn();
+
+/** Has times shown in a zone, as Europe/Berlin; a RangeError where none has this name. */
+export function setZone(zone) {
+  form = formIn(zone);
 }
 
-/** The date where the tablet stands, as 2026-03-02. */
-export function day(milliseconds) {
-  const time = new Date(milliseconds);
-  return `${time.getFullYear()}-${two(time.getMonth() + 1)}-${two(time.getDate())}`;
-}
-
-/** Date and time where the tablet stands, as 2026-03-02 07:05. */
+/** Date and time at the plant, as 2026-03-02 07:05. */
 export function local(milliseconds) {
-  return `${day(milliseconds)} ${shown(milliseconds)}`;
+  return form.format(milliseconds);
 }
 
-/** The same for a sheet that is read elsewhere too: with what it differs from UTC. */
+/** Hours and minutes of the day at the plant. */
+export function shown(milliseconds) {
+  return local(milliseconds).slice(-5);
+}
+
+/** The date at the plant, as 2026-03-02. */
+export function day(milliseconds) {
+  return local(milliseconds).slice(0, -6);
+}
+
+/** Date and time for a sheet that is read elsewhere too: with what they differ from UTC. */
 export function zoned(milliseconds) {
-  const ahead = -new Date(milliseconds).getTimezoneOffset();
-  const hours = `${two(Math.floor(Math.abs(ahead) / 60))}:${two(Math.abs(ahead) % 60)}`;
-  return `${local(milliseconds)} UTC${ahead < 0 ? "-" : "+"}${hours}`;
+  const { timeZone } = form.resolvedOptions();
+  const parts = new Intl.DateTimeFormat("en", { timeZone, timeZoneName: "longOffset" })
+    .formatToParts(milliseconds);
+  const offset = parts.find(({ type }) => type === "timeZoneName").value.slice("GMT".length);
+  return `${local(milliseconds)} UTC${offset || "+00:00"}`;
 }

@@ -34,6 +34,16 @@ function isText(it) {
   return typeof it === "string" && it.length <= 200;
 }
 
+/** Whether a zone is known here, or none is named. */
+function isZone(timeZone) {
+  try {
+    return timeZone === undefined ||
+      (isText(timeZone) && new Intl.DateTimeFormat("en", { timeZone }) !== null);
+  } catch {
+    return false;
+  }
+}
+
 /** Whether a group has a text for each of its names. */
 function areTexts(group) {
   return group !== null && typeof group === "object" && Object.values(group).every(isText);
@@ -52,6 +62,7 @@ function faultOf(setup) {
     badgeWanted: typeof setup.badgeWanted === "boolean",
     connectionsADay: whole(setup.connectionsADay, 1_000_000),
     language: setup.language === undefined || isText(setup.language),
+    zone: isZone(setup.zone),
     places: areTexts(setup.places),
     scanner: isText(setup.scanner.prefix) && isText(setup.scanner.suffix) &&
       Array.isArray(setup.scanner.separators) &&

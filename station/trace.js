@@ -17,7 +17,7 @@ const QUESTIONS = {
   overdue: "overdue",
 };
 const MINUTE = 60_000;
-/** A cell of a report: a minute of the desk is the time where the tablet stands. */
+/** A cell of a report: a minute of the desk is the time at the plant. */
 const cellOf = (column, text) => (column === "minute" ? clock.local(Number(text) * MINUTE) : text);
 const compare = new Intl.Collator("en", { numeric: true }).compare;
 

@@ -16,6 +16,18 @@ test("times are those of where the tablet stands", () => {
   assert.equal(clock.stamp(WINTER), "2026-03-03T10:10:00Z", "but for messages");
 });
 
+test("times are those of the plant where the set-up names its zone", () => {
+  clock.setZone("America/New_York");
+  assert.equal(clock.local(WINTER), "2026-03-03 05:10");
+  assert.deepEqual([clock.day(WINTER), clock.shown(WINTER)], ["2026-03-03", "05:10"]);
+  assert.equal(clock.zoned(WINTER), "2026-03-03 05:10 UTC-05:00");
+  assert.equal(clock.stamp(WINTER), "2026-03-03T10:10:00Z", "but for messages");
+  clock.setZone("UTC");
+  assert.equal(clock.zoned(WINTER), "2026-03-03 10:10 UTC+00:00");
+  assert.throws(() => clock.setZone("Europe/Nowhere"), RangeError);
+  clock.setZone(undefined);
+});
+
 test("a clock that is set says its time", () => {
   const answer = { Answer: "Accepted", Number: 7 };
   const scan = { word: "ClockSet", body: bodyOf("CLOCK", {}), at: WINTER, answer };

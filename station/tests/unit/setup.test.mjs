@@ -34,6 +34,13 @@ test("a page whose address has a log-in reads its set-up, and all else", async (
   assert.ok(asked.length >= 6 && asked.every((it) => it.startsWith("https://desk/")), asked);
 });
 
+test("a zone is one that is known", async () => {
+  for (const [zone, member] of [["Europe/Berlin", undefined], ["Berlin", "zone"], [1, "zone"]]) {
+    answer = { status: 200, text: JSON.stringify({ ...SETUP, zone }) };
+    assert.equal((await setup.read()).member, member);
+  }
+});
+
 for (
   const [status, fault] of [
     [404, "missing"],
