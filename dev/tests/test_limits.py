@@ -13,7 +13,7 @@ ASIDE = re.compile(
     r"cases/|wrong-programs/|(?:.*/)?(?:tests?|wrong-bodies|must-fail)/|crates/\w+_tests/"
     r"|.*\.(?:antt|png|svg|gz|jsonl)$|packaging/(?:third-parties|tracedesk\.spdx)"
     # made by dev/api, and compared by test_api.py
-    r"|docs/api/|clients/python/tracedesk/(?:limits|words)\.py|station/(?:kinds|limits)\.js"
+    r"|docs/api/|clients/python/tracedesk/(?:limits|words)\.py|station/limits\.js"
 )
 ROW = re.compile(r"^\|.*\n", re.M)  # dev/api makes the tables of docs/messages.md too
 PLACES = {

@@ -1,7 +1,4 @@
-"""The words.py of the package for senders and the station's kinds.js, as made from the table
-docs/api/messages.json.
-"""
-import json
+"""The words.py of the package for senders, as made from the table docs/api/messages.json."""
 import operator
 import re
 import subprocess
@@ -18,29 +15,26 @@ def snake(name: str) -> str:
 
 
 def python_type(member: Member) -> str:
-    if "for_each" in member:
-        return "Optional[Sequence[Optional[str]]] = None"
     if "row" in member:
         return f"Sequence[{member['row']}]"
-    kind = "int" if member["value"] in ("quantity", "counted", "label") else "str"
+    kind: str = member["value"].title()
+    if "for_each" in member:
+        return f"Optional[Sequence[Optional[{kind}]]] = None"
     if "most" in member:
         return f"Sequence[{kind}]"
     is_optional = "where" in member or member["value"] == "attribute"
     return f"Optional[{kind}] = None" if is_optional else kind
 
 
-def python_form(member: Member) -> str:
-    if "row" in member:
-        return f"forms.Rows({member['row']}, {member['most']})"
-    form: str = member["value"].upper()
-    if "for_each" in member:
-        return f"forms.ForEach({snake(member['for_each'])!r}, {form})"
-    if "most" in member:
-        return f"forms.ListOf({form}, {member['most']})"
-    if "where" in member:
-        ((name, value),) = member["where"].items()
-        return f"forms.Where({snake(name)!r}, {value!r}, {form})"
-    return form
+def python_of(members: Iterable[Member]) -> dict[str, tuple[str, ...]]:
+    """The members that are read by another one: what that has to be, or of which list."""
+    found: dict[str, tuple[str, ...]] = {}
+    for it in members:
+        for other, value in it.get("where", {}).items():
+            found[snake(it["name"])] = snake(other), value
+        if "for_each" in it:
+            found[snake(it["name"])] = (snake(it["for_each"]),)
+    return found
 
 
 def wrapped(text: str, indent: str, first: str = "") -> str:
@@ -54,33 +48,19 @@ def wrapped(text: str, indent: str, first: str = "") -> str:
     return "\n".join([*lines, indent + line])
 
 
-def python_class(
-    name: str,
-    base: str,
-    doc: str,
-    members: list[Member],
-    word: str | None = None,
-    beside: Iterable[Member] = (),
-) -> list[str]:
+def python_class(name: str, base: str, doc: str, members: list[Member]) -> list[str]:
     lines = ["", "", "@dataclasses.dataclass(frozen=True)", f"class {name}({base}):"]
     lines += [wrapped(doc + '"""', "    ", '"""')]
-    lines += [f"    {snake(it['name'])}: {python_type(it)}" for it in [*members, *beside]]
-    if word:
-        lines.append(f"    WORD: ClassVar[str] = {word!r}")
-    lines.append(f"    MEMBERS: ClassVar[forms.Members] = {python_members(members)}")
-    if beside:
-        lines.append(f"    BESIDE: ClassVar[forms.Members] = {python_members(beside)}")
+    lines += [f"    {snake(it['name'])}: {python_type(it)}" for it in members]
+    if of := python_of(members):
+        lines.append(f"    OF: ClassVar[Dict[str, Tuple[str, ...]]] = {of!r}")
     return lines
-
-
-def python_members(members: Iterable[Member]) -> str:
-    pairs = [f"({it['name']!r}, {snake(it['name'])!r}, {python_form(it)})" for it in members]
-    return f"({', '.join(pairs)}{',' if len(pairs) == 1 else ''})"
 
 
 def python_forms(table: Table) -> Iterator[str]:
     for name, value in table["values"].items():
         schema = value["schema"]
+        kind = "int" if schema.get("type") == "integer" else "str"
         told = plain(value.get("form", "")).partition(". Names")[0].rstrip(".")
         if "enum" in schema:
             yield f"{name.upper()} = forms.OneOf({tuple(schema['enum'])!r})"
@@ -89,6 +69,8 @@ def python_forms(table: Table) -> Iterator[str]:
         elif name != "time":
             form = f"{schema['maxLength']}, {schema['pattern']!r}, {told!r}"
             yield f"{name.upper()} = forms.Text({form})"
+        if name != "time":
+            yield f"{name.title()} = {kind}"
 
 
 def python_document(message: Member) -> str:
@@ -108,22 +90,7 @@ def recorded(table: Table) -> list[str]:
     return [table["prefix"] + it["word"] for it in its]
 
 
-def station_kinds(table: Table) -> str:
-    names = [f"  {json.dumps(name)},\n" for name in recorded(table)]
-    return (
-        "// Messages about what was done, or handled: their refusals are recorded. Made by dev/api"
-        f" from\n// docs/api/messages.json.\nexport const RECORDED = [\n{''.join(names)}];\n"
-    )
-
-
 FAULT = operator.itemgetter("fault")
-COLUMN_TYPES = {"text": "str", "number": "int", "minutes": "Minutes", "yes or no": "bool"}
-
-
-def python_report(it: Member) -> list[str]:
-    of = it["path"] + (f", detail {it['detail']}" if "detail" in it else "")
-    lines = ["", "", f"class {it['row']}(NamedTuple):", f'    """A row of {of}."""']
-    return lines + [f"    {name}: {COLUMN_TYPES[kind]}" for name, kind in it["columns"].items()]
 
 
 def python_table(name: str, kind: str, pairs: Iterable[tuple[object, object]]) -> list[str]:
@@ -139,11 +106,12 @@ def words(table: Table) -> str:
         "from __future__ import annotations",
         "",
         "import dataclasses",
-        "from typing import ClassVar, Dict, NamedTuple, Optional, Sequence, Tuple, Type, Union",
+        "from typing import ClassVar, Dict, Optional, Sequence, Tuple, Type",
         "",
         "from . import forms",
         "",
         f"PREFIX = {table['prefix']!r}",
+        f"LONGEST_LIST = {table['limits']['LONGEST_LIST']}",
         *python_forms(table),
     ]
     for message in table["messages"]:
@@ -152,9 +120,8 @@ def words(table: Table) -> str:
                 told = f"A row of {message['word']}."
                 lines += python_class(it["row"], "forms.Part", told, it["members"])
     for message in table["messages"]:
-        word, told = message["word"], python_document(message)
-        beside = message.get("beside", ())
-        lines += python_class(word, "forms.Command", told, message["members"], word, beside)
+        members = [*message["members"], *message.get("beside", ())]
+        lines += python_class(message["word"], "forms.Command", python_document(message), members)
     lines += [
         "",
         "",
@@ -166,7 +133,7 @@ def words(table: Table) -> str:
         "",
         "# Messages about what was done: after a refusal they are not sent again.",
         f"REPORTS_OF_WORK: Tuple[str, ...] = {tuple(reports_of_work(table))!r}",
-        "# These, and messages that handle reels: their refusals are recorded.",
+        "# These, and messages that handle reels: the line's book has an entry of a refusal.",
         f"RECORDED: Tuple[str, ...] = {tuple(recorded(table))!r}",
     ]
     lines += ["", "# What to do about a refusal, and about a fault."]
@@ -182,22 +149,13 @@ def words(table: Table) -> str:
         its = [(it["status"], it[of]) for it in table["statuses"] if it["means"] == means]
         lines += python_table(name, "Dict[int, str]", its)
     again = tuple(it["status"] for it in table["statuses"] if it["means"] == "again")
-    told = "none at level 1, where there is no limit; or unbaked, or short in a kit."
+    columns = {name: kind for it in table["reports"] for name, kind in it["columns"].items()}
     lines += [
         f"AGAIN: Tuple[int, ...] = {again!r}",
         f"FAULTS_OF_A_REQUEST: Tuple[str, ...] = {tuple(map(FAULT, table['request_faults']))!r}",
         "",
-        f"# Minutes of floor life left: a number; {told}",
-        "Minutes = Union[int, str, None]",
-    ]
-    for it in table["reports"]:
-        lines += python_report(it)
-    lines += [
-        "",
-        "",
-        "REPORTS: Dict[Tuple[str, Optional[int]], Type[NamedTuple]] = {",
-        *(f"    ({it['path']!r}, {it.get('detail')!r}): {it['row']}," for it in table["reports"]),
-        "}",
+        "# The columns of reports, and what they have.",
+        f"COLUMNS: Dict[str, str] = {columns!r}",
     ]
     return formatted("\n".join(lines) + "\n")
 

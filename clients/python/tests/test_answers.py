@@ -197,25 +197,30 @@ def url() -> Iterator[str]:
     server.end()
 
 
-def test_the_six(url: str) -> None:
+def test_reports_are_rows_by_the_names_of_their_columns(url: str) -> None:
     with desk.Desk(url, patience=600) as it:
-        assert it.slots("M 1") == [
-            words.SlotRow("1", 1, "K-1", "P", "L", 40, None),
-            words.SlotRow("1", 2, "K-2", "P", "L", 7, 10050),
-        ]
-        assert it.kit("PR", "M", 3) == [
-            words.KitRow("1", "P", 9, "K-1", 4, "unbaked"),
-            words.KitRow("1", "P", 9, "", 5, "short"),
-        ]
-        assert it.reel("K-1") == words.ReelCard("K-1", "P", "L", "1", 10, 1, 2, 7, None, "open")
-        assert it.board("B") == [words.BoardPiece("C1", "P,1", "L", "K", "M", "1", True)]
-        assert it.lot("L", 1) == [words.LotBoard("B")]
-        assert it.overdue() == []
+        front, behind = it.slots("M 1")
+        assert (front.slot, front.remaining, front.minutes_left) == ("1", 40, None)
+        assert (behind.reel, behind.position, behind.minutes_left) == ("K-2", 2, 10050)
+        kit = it.report("/kit", product="PR", machine="M", boards=3)
+        assert [row.minutes_left for row in kit] == ["unbaked", "short"]
+        assert (it.reel("K-1").placed, it.reel("K-1").state) == (1, "open")
+        (piece,) = it.report("/trace/board", board="B", detail=4)
+        assert (piece.part, piece.overdue) == ("P,1", True)
+        assert it.report("/overdue") == []
         with pytest.raises(desk.NotThere) as caught:
-            it.lot("X", 1)
+            it.report("/trace/lot", lot="X", detail=1)
         assert caught.value.kind == "Lot"
         with pytest.raises(desk.NotTaken):
-            it.lot("Y", 1)
+            it.report("/trace/lot", lot="Y", detail=1)
+
+
+def test_a_report_that_is_cut_off_is_refused_wherever_it_ends() -> None:
+    report = REPORTS["/slots?machine=M+1"] or ""
+    ends_of_lines = {at + 1 for at, letter in enumerate(report) if letter == "\n"}
+    for length in set(range(len(report))) - ends_of_lines:
+        with pytest.raises(desk.NotTaken):
+            desk.rows_of(report[:length].encode())
 
 
 def test_a_password_goes_by_tls_alone() -> None:

@@ -55,15 +55,6 @@ def test_who_only_looks_makes_no_spool(lab: Lab, words: tuple[str, str]) -> None
     assert b"there is no spool" in done.stderr and not lab.spool.exists()
 
 
-def test_a_run_stops_at_a_refusal_where_that_is_told(lab: Lab) -> None:
-    lab.send("--put", "-", given=line("bad1") + b"\n" + line("u2"))
-    for _ in range(2):
-        done = lab.send("--stop-at-refusal")
-        assert (done.returncode, lab.names()) == (1, ["000000000001", "000000000002"])
-        assert b"PartExists" in done.stderr
-    assert lab.uids() == ["bad1", "bad1"]
-
-
 def test_no_answer_is_asked_again_after_pauses_that_grow(lab: Lab) -> None:
     lab.server.script = [
         (502, {}, {}),
@@ -189,8 +180,8 @@ def test_check_and_validate(lab: Lab) -> None:
     ]
     for part in (
         "write it as 2026-03-02T06:00:00Z",
-        "nearest is TraceDesk.PartDefined",
-        "'PartNo' meant to be it",
+        "is TraceDesk.PartDefined meant?",
+        "PartNumber: it is not there; is PartNo meant?",
         "in no calendar",
     ):
         assert part in looked.stdout
@@ -217,7 +208,8 @@ def test_validate_warns_of_members_that_nobody_reads(tmp_path: pathlib.Path) -> 
     assert (done.returncode, done.stdout.splitlines()) == (
         0,
         [
-            "line 2: warning: MessageBody: MachineReal: nobody reads it; is MachineReels meant?",
+            "line 2: warning: MachineReal: MaterialsInstalled has no such member; is MachineReels"
+            " meant?",
             "2 messages, 0 of them wrong",
         ],
     )
@@ -234,8 +226,6 @@ def test_patience_ends(lab: Lab) -> None:
 def test_a_message_that_is_too_long_is_not_taken(lab: Lab) -> None:
     long = line("long")[:-1] + b" " * forms.LONGEST_MESSAGE + b"}"
     lab.send("--put", "-", given=long + b"\n" + line("u2"))
-    done = lab.send("--stop-at-refusal")
-    assert (done.returncode, lab.uids(), len(lab.names())) == (1, [], 2), done.stderr
     done = lab.send()
     assert (done.returncode, lab.uids(), lab.names()) == (1, ["u2"], []), done.stderr
     assert b"000000000001 is faulty: LineTooLong" in done.stderr
@@ -275,11 +265,6 @@ def test_a_message_of_the_archive_is_done(lab: Lab) -> None:
     assert lab.send("--patience", "0.1").returncode == 3
     lab.server.script = [reused, clock]
     assert (lab.send().returncode, lab.names(), lab.server.script) == (0, [], [])
-    # a run that stopped at it had its answer
-    lab.send("--put", "-", given=line("u1"))
-    for _ in range(2):
-        lab.server.script = [reused]
-        assert lab.send("--stop-at-refusal").returncode == 1
 
 
 def test_a_name_that_this_spool_used_before_is_no_archive(lab: Lab) -> None:

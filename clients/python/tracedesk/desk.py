@@ -2,6 +2,7 @@
 from __future__ import annotations
 
 import base64
+import collections
 import contextlib
 import csv
 import dataclasses
@@ -380,16 +381,16 @@ class Desk:
             raise
         return status, body
 
-    def report(self, path: str, detail: Optional[int] = None, **asked: Any) -> List[Any]:
-        """The rows of a report."""
-        target = (
-            path + "?" + urllib.parse.urlencode({**asked, **({"detail": detail} if detail else {})})
-        )
+    def report(self, path: str, **asked: object) -> List[Any]:
+        """The rows of a report, as `desk.report("/trace/lot", lot="L-77", detail=4)`: tuples with
+        the names of its columns.
+        """
+        target = path + "?" + urllib.parse.urlencode(asked)
 
         def call() -> Tuple[Optional[List[Any]], str, float]:
             status, body, retry_after = self.once("GET", target, None, {})
             if status == 200:
-                return rows_of(words.REPORTS[path, detail], body), "", 0.0
+                return rows_of(body), "", 0.0
             told = answers.read(body)
             if status == 404 and isinstance(told, answers.NotFound):
                 raise NotThere(told.kind)
@@ -403,70 +404,43 @@ class Desk:
         rows: List[Any] = self.until(call)
         return rows
 
-    def board(self, board: str, detail: int = 4) -> List[Any]:
-        """What is on a board: BoardPart, BoardLot, BoardReel or BoardPiece."""
-        return self.report("/trace/board", detail, board=board)
-
-    def lot(self, lot: str, detail: int = 4) -> List[Any]:
-        """Which boards hold a piece of a lot: LotBoard, LotPart, LotReel or LotPiece."""
-        return self.report("/trace/lot", detail, lot=lot)
-
-    def reel(self, reel: str) -> words.ReelCard:
+    def reel(self, reel: str) -> Any:
         """A reel's card."""
-        card: words.ReelCard = self.report("/reel", reel=reel)[0]
-        return card
+        return self.report("/reel", reel=reel)[0]
 
-    def slots(self, machine: str) -> List[words.SlotRow]:
+    def slots(self, machine: str) -> List[Any]:
         """What is mounted on a machine."""
         return self.report("/slots", machine=machine)
 
-    def kit(self, product: str, machine: str, boards: int) -> List[words.KitRow]:
-        """The reels for so many boards."""
-        return self.report("/kit", product=product, machine=machine, boards=boards)
 
-    def overdue(self) -> List[words.OverduePiece]:
-        """The pieces that were placed past their floor life."""
-        return self.report("/overdue")
-
-
-def minutes(text: str) -> words.Minutes:
+def minutes(text: str) -> Union[int, str, None]:
+    """Minutes of floor life: none at level 1, where there is no limit; or unbaked, or short."""
     return None if text == "unlimited" else int(text) if text.isdecimal() else text
 
 
-READERS: Dict[Any, Callable[[str], Any]] = {
-    "str": str,
-    "int": int,
-    "bool": lambda text: text == "yes",
-    "Minutes": minutes,
+READERS: Dict[str, Callable[[str], Any]] = {
+    "text": str,
+    "number": int,
+    "yes or no": lambda text: text == "yes",
+    "minutes": minutes,
 }
 
 
-def rows_of(kind: Any, body: bytes) -> List[Any]:
-    """The rows of a report as tuples with names. Another header than the report's is told, since
-    columns are read by their place.
-    """
+def rows_of(body: bytes) -> List[Any]:
+    """The rows of a report."""
     text = body.decode()
     lines = csv.reader(io.StringIO(text, newline=""), strict=True)
     header: List[str] = next(lines, [])
-    if header != list(kind._fields):
+    if not header or any(it not in words.COLUMNS for it in header):
         raise NotTaken(
-            f"a report with the columns {','.join(kind._fields)} is wanted, and"
-            f" {','.join(header)[:200]} came: the desk is of another version, or --url leads"
-            " elsewhere"
+            f"a report of a desk is wanted, and one with the columns {','.join(header)[:200]} came:"
+            " the desk is of another version, or --url leads elsewhere"
         )
-    readers = [
-        READERS[
-            (
-                kind.__annotations__[name]
-                if isinstance(kind.__annotations__[name], str)
-                else kind.__annotations__[name].__forward_arg__
-            )
-        ]
-        for name in kind._fields
-    ]
     rows = list(lines)
     if not text.endswith("\n") or any(len(row) != len(header) for row in rows):
         raise NotTaken(f"a report came that is cut off: its end is {text[-100:]!r}. Ask again")
+    kind = collections.namedtuple("Row", header)  # type: ignore[misc]  # each report has its own
+    readers = [READERS[words.COLUMNS[it]] for it in header]
     return [kind(*(read(value) for read, value in zip(readers, row))) for row in rows]
 
 

@@ -5,10 +5,13 @@ from __future__ import annotations
 
 import dataclasses
 import datetime
+import difflib
 import json
 import re
+import sys
 import uuid
-from typing import Any, ClassVar, Dict, Optional, Protocol, Sequence, Tuple, Type, TypeVar
+from typing import Any, ClassVar, Dict, Iterable, List, Optional, Protocol, Sequence
+from typing import Tuple, Type, TypeVar
 
 from . import limits
 
@@ -113,11 +116,6 @@ class Row:
         return value
 
 
-def Rows(kind: Type["Part"], most: int) -> ListOf:
-    """A list of rows."""
-    return ListOf(Row(kind), most)
-
-
 @dataclasses.dataclass(frozen=True)
 class Where:
     """A member that is read where another one is this, and left out of the message elsewhere."""
@@ -144,18 +142,43 @@ class ForEach:
 
 
 Members = Tuple[Tuple[str, str, Form], ...]
-
-
 Its = TypeVar("Its", bound="Part")
+
+
+def form_of(kind: str, names: Dict[str, Any], of: Tuple[str, ...]) -> Form:
+    """The form of a member whose type is written so. Quantity is of the form QUANTITY, and a row's
+    type is its class; `of` is what another member has to be, or of which it has a value for each.
+    """
+    inner = re.fullmatch(r"(Optional|Sequence)\[(.*)\]", kind)
+    if not inner:
+        form: Form = names[kind.upper()] if kind.upper() in names else Row(names[kind])
+        return form
+    if inner[1] == "Sequence":
+        return ListOf(form_of(inner[2], names, ()), names["LONGEST_LIST"])
+    if len(of) == 1:
+        return ForEach(of[0], form_of(re.sub(r"Sequence|Optional|[][]", "", kind), names, ()))
+    form = form_of(inner[2], names, ())
+    return Where(of[0], of[1], form) if of else form
 
 
 class Part:
     """A body, or a row of one: its members by name, by attribute, and their forms; and those beside
-    them, which the desk skips and others read.
+    them, which the desk skips and others read. All follow from the types of its attributes.
     """
 
     MEMBERS: ClassVar[Members] = ()
     BESIDE: ClassVar[Members] = ()
+    OF: ClassVar[Dict[str, Tuple[str, ...]]] = {}  # members that are read by another one
+
+    def __init_subclass__(cls) -> None:
+        names, found = vars(sys.modules[cls.__module__]), []
+        for attribute, kind in cls.__dict__.get("__annotations__", {}).items():
+            if not kind.startswith("ClassVar"):
+                form = form_of(kind, names, cls.OF.get(attribute, ()))
+                found.append((attribute.title().replace("_", ""), attribute, form))
+        is_beside = [hasattr(cls, it) and not isinstance(form, Where) for _, it, form in found]
+        cls.MEMBERS = tuple(it for it, beside in zip(found, is_beside) if not beside)
+        cls.BESIDE = tuple(it for it, beside in zip(found, is_beside) if beside)
 
     def __post_init__(self) -> None:
         for name, attribute, form in self.MEMBERS:
@@ -174,21 +197,27 @@ class Part:
                     raise OutOfRange(name, f"it has {len(given)} elements for {count} pieces")
 
     @classmethod
-    def of_body(cls: Type[Its], body: Any) -> Its:
-        """What a body says; OutOfRange where it lacks a member, or has one that nobody reads."""
+    def of_body(cls: Type[Its], body: Any, unread: Optional[List[OutOfRange]] = None) -> Its:
+        """What a body says; OutOfRange where it lacks a member. One that nobody reads is added to
+        `unread`, or is OutOfRange too.
+        """
         if not isinstance(body, dict):
             raise OutOfRange("MessageBody", f"{body!r:.100} is no object")
-        its = (*cls.MEMBERS, *cls.BESIDE)
-        for name in body:
-            if name not in [it[0] for it in its]:
-                raise OutOfRange(str(name)[:100], f"{cls.__name__} has no such member")
-        given: Dict[str, Any] = {}
-        for name, attribute, form in its:
-            if name in body:
-                given[attribute] = of_json(form, body[name])
-            elif (name, attribute, form) in cls.MEMBERS and not isinstance(form, Where):
-                raise OutOfRange(name, "it is not there")
-        return cls(**given)
+        its = {name: (attribute, form) for name, attribute, form in (*cls.MEMBERS, *cls.BESIDE)}
+        for name in (it for it in body if it not in its):
+            fault = OutOfRange(
+                str(name)[:100], f"{cls.__name__} has no such member{near(name, its)}"
+            )
+            if unread is None:
+                raise fault
+            unread.append(fault)
+        for name, attribute, form in cls.MEMBERS:
+            if name not in body and not isinstance(form, Where):
+                raise OutOfRange(name, f"it is not there{near(name, body)}")
+        given = {
+            name: of_json(its[name][1], it, unread) for name, it in body.items() if name in its
+        }
+        return cls(**{its[name][0]: it for name, it in given.items()})
 
     def body(self) -> Dict[str, Any]:
         """The members as they stand in a message."""
@@ -197,11 +226,17 @@ class Part:
         return {name: shown(it) for name, it in found.items() if it is not None}
 
 
-def of_json(form: Form, value: Any) -> Any:
+def of_json(form: Form, value: Any, unread: Optional[List[OutOfRange]]) -> Any:
     """A member as its constructor takes it: rows are objects."""
     if isinstance(form, ListOf) and isinstance(form.form, Row) and isinstance(value, list):
-        return [form.form.kind.of_body(it) for it in value]
+        return [form.form.kind.of_body(it, unread) for it in value]
     return value
+
+
+def near(name: str, names: Iterable[str]) -> str:
+    """Asks whether another name is meant, if one is much like it."""
+    found = difflib.get_close_matches(name, list(names), 1, 0.6)
+    return f"; is {found[0]} meant?" if found else ""
 
 
 def shown(value: Any) -> Any:
@@ -239,6 +274,10 @@ class Command(Part):
     """One of the seventeen messages."""
 
     WORD: ClassVar[str] = ""
+
+    def __init_subclass__(cls) -> None:
+        super().__init_subclass__()
+        cls.WORD = cls.__name__
 
     def message(
         self,

@@ -2,60 +2,60 @@
 from __future__ import annotations
 
 import dataclasses
-from typing import ClassVar, Dict, NamedTuple, Optional, Sequence, Tuple, Type, Union
+from typing import ClassVar, Dict, Optional, Sequence, Tuple, Type
 
 from . import forms
 
 PREFIX = "TraceDesk."
+LONGEST_LIST = 5000
 NAME = forms.Text(
     64,
     "^[!-~]([ -~]*[!-~])?$",
     "a text of 1 to 64 bytes of printable ASCII and spaces, with no space at its ends",
 )
+Name = str
 DESIGNATOR = forms.Text(
     16, "^[A-Za-z0-9_.-]+$", "a text of 1 to 16 ASCII letters, digits, _, . and -"
 )
+Designator = str
 QUANTITY = forms.Whole(1, 10000000)
+Quantity = int
 LEVEL = forms.OneOf(("1", "2", "2a", "3", "4", "5", "5a", "6"))
+Level = str
 LABEL = forms.Whole(1, 525600)
+Label = int
 ATTRIBUTE = forms.Text(
     200,
     "^[^\\u0000-\\u001f\\u007f]+$",
     "a text of 1 to 200 characters, none of which is a control character",
 )
+Attribute = str
 COUNTED = forms.Whole(0, 10000000)
+Counted = int
 
 
 @dataclasses.dataclass(frozen=True)
 class SheetRow(forms.Part):
     """A row of SheetDefined."""
 
-    slot: str
-    part_number: str
-    designators: Sequence[str]
-    MEMBERS: ClassVar[forms.Members] = (
-        ("Slot", "slot", NAME),
-        ("PartNumber", "part_number", NAME),
-        ("Designators", "designators", forms.ListOf(DESIGNATOR, 5000)),
-    )
+    slot: Name
+    part_number: Name
+    designators: Sequence[Designator]
 
 
 @dataclasses.dataclass(frozen=True)
 class CountRow(forms.Part):
     """A row of CountsTaken."""
 
-    reel: str
-    quantity: int
-    MEMBERS: ClassVar[forms.Members] = (("Reel", "reel", NAME), ("Quantity", "quantity", COUNTED))
+    reel: Name
+    quantity: Counted
 
 
 @dataclasses.dataclass(frozen=True)
 class PartDefined(forms.Command):
     """PartDefined makes a part number known. Refused for PartExists."""
 
-    part_number: str
-    WORD: ClassVar[str] = "PartDefined"
-    MEMBERS: ClassVar[forms.Members] = (("PartNumber", "part_number", NAME),)
+    part_number: Name
 
 
 @dataclasses.dataclass(frozen=True)
@@ -64,13 +64,8 @@ class AlternateAllowed(forms.Command):
     direction only. Alternates don't chain: an alternate of Alternate is not thereby allowed in
     place of PartNumber. Refused for UnknownPart."""
 
-    part_number: str
-    alternate: str
-    WORD: ClassVar[str] = "AlternateAllowed"
-    MEMBERS: ClassVar[forms.Members] = (
-        ("PartNumber", "part_number", NAME),
-        ("Alternate", "alternate", NAME),
-    )
+    part_number: Name
+    alternate: Name
 
 
 @dataclasses.dataclass(frozen=True)
@@ -79,15 +74,9 @@ class SheetDefined(forms.Command):
     designators. A new sheet replaces the old one completely. Refused for MachineBusy, SlotTwice,
     DesignatorTwice, UnknownPart."""
 
-    product: str
-    machine: str
+    product: Name
+    machine: Name
     rows: Sequence[SheetRow]
-    WORD: ClassVar[str] = "SheetDefined"
-    MEMBERS: ClassVar[forms.Members] = (
-        ("Product", "product", NAME),
-        ("Machine", "machine", NAME),
-        ("Rows", "rows", forms.Rows(SheetRow, 5000)),
-    )
 
 
 @dataclasses.dataclass(frozen=True)
@@ -95,10 +84,8 @@ class ProductSelected(forms.Command):
     """ProductSelected selects the product that a machine makes from now on, and so its sheet.
     Refused for UnknownSheet, MachineBusy."""
 
-    machine: str
-    product: str
-    WORD: ClassVar[str] = "ProductSelected"
-    MEMBERS: ClassVar[forms.Members] = (("Machine", "machine", NAME), ("Product", "product", NAME))
+    machine: Name
+    product: Name
 
 
 @dataclasses.dataclass(frozen=True)
@@ -106,31 +93,17 @@ class ReelReceived(forms.Command):
     """ReelReceived receives a reel, sealed in its bag. Trays and tubes are reels too. Refused for
     UnknownPart, ReelExists."""
 
-    reel: str
-    part_number: str
-    lot: str
-    level: str
-    quantity: int
-    label_minutes: Optional[int] = None
-    date_code: Optional[str] = None
-    supplier: Optional[str] = None
-    maker_part: Optional[str] = None
-    order: Optional[str] = None
-    WORD: ClassVar[str] = "ReelReceived"
-    MEMBERS: ClassVar[forms.Members] = (
-        ("Reel", "reel", NAME),
-        ("PartNumber", "part_number", NAME),
-        ("Lot", "lot", NAME),
-        ("Level", "level", LEVEL),
-        ("Quantity", "quantity", QUANTITY),
-        ("LabelMinutes", "label_minutes", forms.Where("level", "6", LABEL)),
-    )
-    BESIDE: ClassVar[forms.Members] = (
-        ("DateCode", "date_code", ATTRIBUTE),
-        ("Supplier", "supplier", ATTRIBUTE),
-        ("MakerPart", "maker_part", ATTRIBUTE),
-        ("Order", "order", ATTRIBUTE),
-    )
+    reel: Name
+    part_number: Name
+    lot: Name
+    level: Level
+    quantity: Quantity
+    label_minutes: Optional[Label] = None
+    date_code: Optional[Attribute] = None
+    supplier: Optional[Attribute] = None
+    maker_part: Optional[Attribute] = None
+    order: Optional[Attribute] = None
+    OF: ClassVar[Dict[str, Tuple[str, ...]]] = {"label_minutes": ("level", "6")}
 
 
 @dataclasses.dataclass(frozen=True)
@@ -138,9 +111,7 @@ class ReelOpened(forms.Command):
     """ReelOpened takes a reel out of its bag: its floor life runs from now on. An open reel may be
     opened again; its floor life goes on. Refused for UnknownReel."""
 
-    reel: str
-    WORD: ClassVar[str] = "ReelOpened"
-    MEMBERS: ClassVar[forms.Members] = (("Reel", "reel", NAME),)
+    reel: Name
 
 
 @dataclasses.dataclass(frozen=True)
@@ -148,9 +119,7 @@ class ReelSealed(forms.Command):
     """ReelSealed puts a reel back into its bag: its floor life stops, and the minutes so far stay
     counted. Refused for UnknownReel, ReelMounted."""
 
-    reel: str
-    WORD: ClassVar[str] = "ReelSealed"
-    MEMBERS: ClassVar[forms.Members] = (("Reel", "reel", NAME),)
+    reel: Name
 
 
 @dataclasses.dataclass(frozen=True)
@@ -158,9 +127,7 @@ class ReelBaked(forms.Command):
     """ReelBaked gives a reel its whole floor life again, and leaves it sealed. Refused for
     UnknownReel, ReelMounted."""
 
-    reel: str
-    WORD: ClassVar[str] = "ReelBaked"
-    MEMBERS: ClassVar[forms.Members] = (("Reel", "reel", NAME),)
+    reel: Name
 
 
 @dataclasses.dataclass(frozen=True)
@@ -169,15 +136,9 @@ class MaterialsLoaded(forms.Command):
     life, null at level 1. Accepted tells MinutesLeft. Refused for NoProduct, SlotNotOnSheet,
     SlotTaken, UnknownReel, ReelMounted, ReelEmpty, WrongPart, NotBaked, Expired."""
 
-    machine: str
-    slot: str
-    reel: str
-    WORD: ClassVar[str] = "MaterialsLoaded"
-    MEMBERS: ClassVar[forms.Members] = (
-        ("Machine", "machine", NAME),
-        ("Slot", "slot", NAME),
-        ("Reel", "reel", NAME),
-    )
+    machine: Name
+    slot: Name
+    reel: Name
 
 
 @dataclasses.dataclass(frozen=True)
@@ -186,25 +147,17 @@ class MaterialsSpliced(forms.Command):
     MinutesLeft. Refused for NoProduct, SlotNotOnSheet, SlotEmpty, UnknownReel, ReelMounted,
     ReelEmpty, WrongPart, NotBaked, Expired."""
 
-    machine: str
-    slot: str
-    reel: str
-    WORD: ClassVar[str] = "MaterialsSpliced"
-    MEMBERS: ClassVar[forms.Members] = (
-        ("Machine", "machine", NAME),
-        ("Slot", "slot", NAME),
-        ("Reel", "reel", NAME),
-    )
+    machine: Name
+    slot: Name
+    reel: Name
 
 
 @dataclasses.dataclass(frozen=True)
 class MaterialsUnloaded(forms.Command):
     """MaterialsUnloaded takes all reels off a slot. They stay open. Refused for SlotEmpty."""
 
-    machine: str
-    slot: str
-    WORD: ClassVar[str] = "MaterialsUnloaded"
-    MEMBERS: ClassVar[forms.Members] = (("Machine", "machine", NAME), ("Slot", "slot", NAME))
+    machine: Name
+    slot: Name
 
 
 @dataclasses.dataclass(frozen=True)
@@ -213,20 +166,16 @@ class WorkStarted(forms.Command):
     must be of an allowed part, and not expired. Refused for NoProduct, MachineBusy, BoardBusy,
     OtherProduct, SlotEmpty, WrongPart, Expired."""
 
-    machine: str
-    board: str
-    WORD: ClassVar[str] = "WorkStarted"
-    MEMBERS: ClassVar[forms.Members] = (("Machine", "machine", NAME), ("Board", "board", NAME))
+    machine: Name
+    board: Name
 
 
 @dataclasses.dataclass(frozen=True)
 class WorkCompleted(forms.Command):
     """WorkCompleted ends the work on the board. Refused for NotInWork."""
 
-    machine: str
-    board: str
-    WORD: ClassVar[str] = "WorkCompleted"
-    MEMBERS: ClassVar[forms.Members] = (("Machine", "machine", NAME), ("Board", "board", NAME))
+    machine: Name
+    board: Name
 
 
 @dataclasses.dataclass(frozen=True)
@@ -237,19 +186,11 @@ class MaterialsInstalled(forms.Command):
     as overdue. Accepted tells Reels. Refused for NotInWork, DesignatorNotOnSheet, DesignatorTwice,
     AlreadyPlaced, ReelShort."""
 
-    machine: str
-    board: str
-    designators: Sequence[str]
-    machine_reels: Optional[Sequence[Optional[str]]] = None
-    WORD: ClassVar[str] = "MaterialsInstalled"
-    MEMBERS: ClassVar[forms.Members] = (
-        ("Machine", "machine", NAME),
-        ("Board", "board", NAME),
-        ("Designators", "designators", forms.ListOf(DESIGNATOR, 5000)),
-    )
-    BESIDE: ClassVar[forms.Members] = (
-        ("MachineReels", "machine_reels", forms.ForEach("designators", NAME)),
-    )
+    machine: Name
+    board: Name
+    designators: Sequence[Designator]
+    machine_reels: Optional[Sequence[Optional[Name]]] = None
+    OF: ClassVar[Dict[str, Tuple[str, ...]]] = {"machine_reels": ("designators",)}
 
 
 @dataclasses.dataclass(frozen=True)
@@ -257,15 +198,9 @@ class MaterialsScrapped(forms.Command):
     """MaterialsScrapped reports pieces of a slot that were thrown away. Taken is their number.
     Accepted tells Taken. Refused for SlotEmpty, ReelShort."""
 
-    machine: str
-    slot: str
-    quantity: int
-    WORD: ClassVar[str] = "MaterialsScrapped"
-    MEMBERS: ClassVar[forms.Members] = (
-        ("Machine", "machine", NAME),
-        ("Slot", "slot", NAME),
-        ("Quantity", "quantity", QUANTITY),
-    )
+    machine: Name
+    slot: Name
+    quantity: Quantity
 
 
 @dataclasses.dataclass(frozen=True)
@@ -276,16 +211,11 @@ class CountsTaken(forms.Command):
     UnknownReel, ReelTwice, ReelMounted, CountAbove."""
 
     counts: Sequence[CountRow]
-    WORD: ClassVar[str] = "CountsTaken"
-    MEMBERS: ClassVar[forms.Members] = (("Counts", "counts", forms.Rows(CountRow, 5000)),)
 
 
 @dataclasses.dataclass(frozen=True)
 class ClockSet(forms.Command):
     """ClockSet moves the desk's time forward to its time stamp."""
-
-    WORD: ClassVar[str] = "ClockSet"
-    MEMBERS: ClassVar[forms.Members] = ()
 
 
 MESSAGES: Tuple[Type[forms.Command], ...] = (
@@ -315,7 +245,7 @@ REPORTS_OF_WORK: Tuple[str, ...] = (
     "TraceDesk.MaterialsInstalled",
     "TraceDesk.MaterialsScrapped",
 )
-# These, and messages that handle reels: their refusals are recorded.
+# These, and messages that handle reels: the line's book has an entry of a refusal.
 RECORDED: Tuple[str, ...] = (
     "TraceDesk.MaterialsLoaded",
     "TraceDesk.MaterialsSpliced",
@@ -395,134 +325,25 @@ FAULTS_OF_A_REQUEST: Tuple[str, ...] = (
     "BodyTooLarge",
 )
 
-# Minutes of floor life left: a number; none at level 1, where there is no limit; or unbaked, or short in a kit.
-Minutes = Union[int, str, None]
-
-
-class BoardPart(NamedTuple):
-    """A row of /trace/board, detail 1."""
-
-    part: str
-
-
-class BoardLot(NamedTuple):
-    """A row of /trace/board, detail 2."""
-
-    part: str
-    lot: str
-
-
-class BoardReel(NamedTuple):
-    """A row of /trace/board, detail 3."""
-
-    part: str
-    lot: str
-    reel: str
-
-
-class BoardPiece(NamedTuple):
-    """A row of /trace/board, detail 4."""
-
-    designator: str
-    part: str
-    lot: str
-    reel: str
-    machine: str
-    slot: str
-    overdue: bool
-
-
-class LotBoard(NamedTuple):
-    """A row of /trace/lot, detail 1."""
-
-    board: str
-
-
-class LotPart(NamedTuple):
-    """A row of /trace/lot, detail 2."""
-
-    board: str
-    part: str
-
-
-class LotReel(NamedTuple):
-    """A row of /trace/lot, detail 3."""
-
-    board: str
-    part: str
-    reel: str
-
-
-class LotPiece(NamedTuple):
-    """A row of /trace/lot, detail 4."""
-
-    board: str
-    designator: str
-    part: str
-    reel: str
-    machine: str
-    slot: str
-    overdue: bool
-
-
-class ReelCard(NamedTuple):
-    """A row of /reel."""
-
-    reel: str
-    part: str
-    lot: str
-    level: str
-    received: int
-    placed: int
-    scrapped: int
-    remaining: int
-    minutes_left: Minutes
-    state: str
-
-
-class SlotRow(NamedTuple):
-    """A row of /slots."""
-
-    slot: str
-    position: int
-    reel: str
-    part: str
-    lot: str
-    remaining: int
-    minutes_left: Minutes
-
-
-class KitRow(NamedTuple):
-    """A row of /kit."""
-
-    slot: str
-    part: str
-    needed: int
-    reel: str
-    pieces: int
-    minutes_left: Minutes
-
-
-class OverduePiece(NamedTuple):
-    """A row of /overdue."""
-
-    board: str
-    designator: str
-    reel: str
-    minute: str
-
-
-REPORTS: Dict[Tuple[str, Optional[int]], Type[NamedTuple]] = {
-    ("/trace/board", 1): BoardPart,
-    ("/trace/board", 2): BoardLot,
-    ("/trace/board", 3): BoardReel,
-    ("/trace/board", 4): BoardPiece,
-    ("/trace/lot", 1): LotBoard,
-    ("/trace/lot", 2): LotPart,
-    ("/trace/lot", 3): LotReel,
-    ("/trace/lot", 4): LotPiece,
-    ("/reel", None): ReelCard,
-    ("/slots", None): SlotRow,
-    ("/kit", None): KitRow,
-    ("/overdue", None): OverduePiece,
+# The columns of reports, and what they have.
+COLUMNS: Dict[str, str] = {
+    "part": "text",
+    "lot": "text",
+    "reel": "text",
+    "designator": "text",
+    "machine": "text",
+    "slot": "text",
+    "overdue": "yes or no",
+    "board": "text",
+    "level": "text",
+    "received": "number",
+    "placed": "number",
+    "scrapped": "number",
+    "remaining": "number",
+    "minutes_left": "minutes",
+    "state": "text",
+    "position": "number",
+    "needed": "number",
+    "pieces": "number",
+    "minute": "text",
 }

@@ -49,7 +49,6 @@ import time
 from typing import Any, NamedTuple
 
 from tracedesk import Desk, GivenUp, NotTaken, NotThere, answers
-from tracedesk import words as reports
 from tracedesk.limits import FURTHEST_AHEAD, GREATEST_MINUTE
 from tracedesk_ops import catalogue, desks, entries, options, places, plant, stored
 from tracedesk_ops.desk_tables import FLOOR_LIFE
@@ -71,7 +70,7 @@ class Move(NamedTuple):
     was out, and the minute of the move.
     """
 
-    card: reports.ReelCard
+    card: Any  # of the reel
     called: str
     label: int | None
     out: int
@@ -111,7 +110,7 @@ class Move(NamedTuple):
         return [self.line(place, *its[:2], **its[2]) for place, its in enumerate(said, 1)]
 
 
-def card_of(desk: Desk, reel: str) -> reports.ReelCard | None:
+def card_of(desk: Desk, reel: str) -> Any:
     try:
         return desk.reel(reel)
     except NotThere:
@@ -147,7 +146,7 @@ def at_rest(old: Desk, asked: argparse.Namespace, now: int) -> Move:
     return Move(card, asked.called or card.reel, asked.label, out, now)
 
 
-def want_free(old: Desk, card: reports.ReelCard, at: str) -> None:
+def want_free(old: Desk, card: Any, at: str) -> None:
     """A NotMoved if somebody holds the reel or its lot. A desk of `tracedesk serve` has no book."""
     target = "/line/book?after=0"
     status, body, _ = old.until(lambda: (old.once("GET", target, None, {}), "", 0.0))

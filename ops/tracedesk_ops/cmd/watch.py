@@ -44,7 +44,6 @@ from collections.abc import Callable, Generator
 from typing import Any
 
 from tracedesk import Desk, NotTaken, NotThere, Refused
-from tracedesk import words as reports
 from tracedesk_ops import files, metrics, model, options, places, plant
 from tracedesk_ops import reader_of, sealed_watch, stored
 
@@ -175,8 +174,8 @@ class Watch:
             yield from self.machine(machine, product)
 
     def machine(self, machine: str, product: str | None) -> metrics.Samples:
-        slots: list[reports.SlotRow] = self.desk.rows("/slots", machine=machine)
-        kit: list[reports.KitRow] = []
+        slots = self.desk.rows("/slots", machine=machine)
+        kit: list[Any] = []
         if product:
             kit = self.desk.rows("/kit", product=product, machine=machine, boards=1)
         pieces = collections.Counter({row.slot: 0 for row in kit})
