@@ -44,7 +44,7 @@ faults:        ## fails each call of the program, refuses its memory, cuts the p
 	@dev/faults/run calls
 	@dev/faults/run calls --planted
 	@dev/faults/run damage
-send-test:     ## the senders: 10,000 messages while tracedesk-send, nginx and `serve` are killed 200 times; a proxy that fails; TLS; a model of all that is outside | 6 min | python3-pytest nginx openssl
+send-test:     ## the senders: 10,000 messages while tracedesk-send, nginx and `serve` are killed 200 times; a proxy that fails; TLS | 6 min | python3-pytest nginx openssl
 	$(say)
 	@/usr/bin/python3 -m pytest -q clients/python/tests
 bridge-test:   ## the bridge: its filter, its sources, kills, and kills of RabbitMQ and mosquitto under it | 5 min | jq python3-pytest rabbitmq-server python3-qpid-proton mosquitto python3-paho-mqtt openssl

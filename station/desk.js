@@ -7,6 +7,7 @@ const GET_SECONDS = 25;
 const POST_SECONDS = 30; // then the same bytes are sent again: a message acts once
 const ANEW = 300; // milliseconds until an answer of before is asked for again
 const ANEW_TIMES = 8; // and how often that is done while the desk makes a new one
+const LOOKED_AT = 1_000; // entries of the book, the newest ones
 const CACHE = 3_000; // milliseconds after which the proxy asks the desk anew: two whole seconds
 const DECIDED = {
   200: ["Accepted"],
@@ -149,18 +150,20 @@ export async function maySend(seconds = GET_SECONDS) {
 }
 
 /**
- * Puts a record of untraced work into the line's inbox, or a decision about one: "had", or
- * "forbidden", or "none" where the inbox gave no answer. `authorization` is another log-in than
- * the page's.
+ * The number of the entry that the line's book has of a message: null if there is none among the
+ * newest ones, and a NotHad where the line doesn't say.
  */
-export async function putRecord({ id, text, isDecision = false }, authorization = null) {
-  const log = authorization === null ? {} : { Authorization: authorization };
-  const headers = { "Content-Type": "application/json", ...log };
-  const how = { method: "PUT", body: text, headers };
-  const folder = isDecision ? "decided" : "untraced";
-  const { status } = await asked(`/line/${folder}/${id}.json`, how, POST_SECONDS);
-  const isHad = [200, 201, 204].includes(status);
-  return isHad ? "had" : session.isLoggedOut(status) ? "forbidden" : "none";
+export async function entryOf(uid) {
+  const look = async (target) => {
+    const told = await asked(target, {}, GET_SECONDS);
+    if (told.status !== 200) {
+      throw new NotHad({ ...told, body: {} });
+    }
+    return told.text;
+  };
+  const { Entries } = objectOf(await look("/line/counts"));
+  const all = rowsOf(await look(`/line/book?after=${Math.max(0, Entries - LOOKED_AT)}`));
+  return Number(all.find((it) => it.uid === uid)?.n ?? 0) || null;
 }
 
 /**

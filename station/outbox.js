@@ -4,7 +4,6 @@
 import * as clock from "./clock.js";
 import * as desk from "./desk.js";
 import * as store from "./store.js";
-import { recordOf } from "./untraced.js";
 
 const FIRST_PAUSE = 250;
 const LONGEST_PAUSE = 5000; // milliseconds
@@ -42,7 +41,6 @@ export class Outbox {
     this.answered = 0;
     this.waiting = [];
     this.problem = null;
-    this.mayHold = true; // whether there may be a record that isn't handed on
   }
 
   /** Begins to send; of several tabs one sends for all. */
@@ -106,7 +104,6 @@ export class Outbox {
   async sendAll() {
     for (;;) {
       try {
-        await this.handOn();
         const [next] = await store.waiting();
         await (next ? this.send(next) : this.pause(60_000));
       } catch (fault) {
@@ -114,23 +111,6 @@ export class Outbox {
         this.count();
         await this.pause(LONGEST_PAUSE);
       }
-    }
-  }
-
-  /**
-   * Hands on the records of untraced work; what the line's inbox didn't take is tried again
-   * later.
-   */
-  async handOn() {
-    if (this.mayHold) {
-      const areHad = [];
-      for (const { uid, record } of await store.unrecorded()) {
-        areHad.push((await desk.putRecord(record)) === "had");
-        if (areHad.at(-1)) {
-          await store.recorded(uid);
-        }
-      }
-      this.mayHold = !areHad.every(Boolean);
     }
   }
 
@@ -163,12 +143,10 @@ export class Outbox {
         status = known.status;
       }
     }
-    const record = await recordOf(scan, answer, clock.stamp(clock.now() ?? Date.now()));
-    await store.settle(scan, answer, status, record);
-    this.mayHold ||= record !== null;
+    await store.settle(scan, answer, status);
     this.problem = null;
     this.channel.postMessage({ answered: scan.uid });
-    this.tell({ answered: { ...scan, state: "answered", answer, status, recordId: record?.id } });
+    this.tell({ answered: { ...scan, state: "answered", answer, status } });
     this.count();
     this.answered += 1;
     if (this.answered % ANSWERED_BETWEEN_TIDYINGS === 0) {

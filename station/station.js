@@ -21,7 +21,6 @@ import { play } from "./sound.js";
 import * as store from "./store.js";
 import { TakenOff } from "./taken_off.js";
 import { TraceScreen } from "./trace.js";
-import { takenOff } from "./untraced.js";
 import { Verdict } from "./verdict.js";
 import { TEXTS } from "./words.js";
 import { keepLarge } from "./zoom.js";
@@ -73,7 +72,7 @@ export class Station {
     this.model = new Model(read, () => this.changed());
     this.outbox = new Outbox((told) => this.told(told));
     this.takenOff = new TakenOff({
-      say: (scan, authorization) => this.sayTakenOff(scan, authorization),
+      say: (scan) => this.sayTakenOff(scan),
       changed: () => this.verdict.redrawOff(),
     });
     this.verdict = new Verdict(this.model, at("verdict"), {
@@ -309,20 +308,20 @@ export class Station {
   }
 
   /**
-   * Decides that a refused reel was taken off. Its entry is closed, and the record in the line's
-   * inbox is for recalls.
+   * Decides that a refused reel was taken off: its entry in the line's book is closed, and recalls
+   * doubt nothing because of it.
    */
-  async sayTakenOff(scan, authorization) {
+  async sayTakenOff(scan) {
     if (this.badgeName === null) {
       return "badge";
     }
     await this.model.lookAtMachines();
-    const entry = this.model.entryOf(scan.body);
-    const found = entry === null ? "had" : await this.decide(entry, "taken off");
-    const at = clock.stamp(clock.now() ?? Date.now());
-    return found === "had"
-      ? desk.putRecord(await takenOff(scan.recordId, this.source(), at), authorization)
-      : found;
+    try {
+      const entry = this.model.entryOf(scan.body) ?? (await desk.entryOf(scan.uid));
+      return entry === null ? "had" : await this.decide(entry, "taken off");
+    } catch {
+      return "none";
+    }
   }
 
   /** An action, with its values. */

@@ -80,14 +80,13 @@ async function put(scan) {
 }
 
 /** Keeps the answer to a scan. One that isn't a yes is unseen until somebody has seen it. */
-export function settle(scan, answer, status, record = null) {
+export function settle(scan, answer, status) {
   return put({
     ...scan,
     state: "answered",
     answer,
     status,
     unseen: answer.Answer !== "Accepted",
-    ...(record ? { record, recordId: record.id } : {}),
   });
 }
 
@@ -106,18 +105,6 @@ export async function unseen() {
     ...(await inState("answered")).filter((it) => it.unseen),
     ...(await inState("notSent")),
   ].sort((a, b) => b.seq - a.seq);
-}
-
-/** The refused reports of work whose record isn't handed on yet. */
-export async function unrecorded() {
-  return (await inState("answered")).filter((it) => it.record);
-}
-
-/** Notes that the record of a refused report of work is handed on. */
-export async function recorded(uid) {
-  const scan = await byUid(uid);
-  delete scan.record;
-  await put(scan);
 }
 
 export async function byUid(uid) {
@@ -153,7 +140,7 @@ export async function latest(count) {
 
 /** Drops the oldest answered scans beyond those that are kept. */
 export async function tidy() {
-  const answered = (await inState("answered")).filter((it) => !it.unseen && !it.record);
+  const answered = (await inState("answered")).filter((it) => !it.unseen);
   const transaction = await begun("scans", "readwrite");
   answered.slice(0, -KEPT).forEach(({ seq }) => transaction.objectStore("scans").delete(seq));
   await ended(transaction);

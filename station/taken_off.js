@@ -4,15 +4,14 @@
 import { isLoad, whereOf } from "./answers.js";
 import { button, el } from "./dom.js";
 import { said } from "./say.js";
-import { authorizationOf } from "./session.js";
 import { TEXTS } from "./words.js";
 
 const STATES = { had: "noted", badge: "badge", forbidden: "forbidden", none: "failed" };
 
 export class TakenOff {
   /**
-   * `say` says so of a scan, by another log-in than the page's if one is given, and returns what
-   * came of it; `changed` is called when it looks another way.
+   * `say` says so of a scan, and returns what came of it; `changed` is called when it looks
+   * another way.
    */
   constructor({ say, changed }) {
     Object.assign(this, { say, changed });
@@ -24,13 +23,13 @@ export class TakenOff {
     this.changed();
   }
 
-  async decide(scan, authorization = null) {
-    this.set(scan.uid, STATES[await this.say(scan, authorization)]);
+  async decide(scan) {
+    this.set(scan.uid, STATES[await this.say(scan)]);
   }
 
   /** What a refusal offers, or nothing where it is of no reel on a slot. */
   parts(scan) {
-    if (!scan.recordId || !isLoad(scan)) {
+    if (scan.answer?.Answer !== "Refused" || !isLoad(scan)) {
       return null;
     }
     const texts = TEXTS.verdict.off;
@@ -48,29 +47,8 @@ export class TakenOff {
       badge: () => [line(texts.badge), ask],
       noted: () => [line(texts.noted)],
       failed: () => [line(texts.failed), ask],
-      forbidden: () => [line(texts.forbidden), this.form(scan)],
+      forbidden: () => [line(texts.forbidden), ask],
     }[state]();
     return el("div", { class: `answers off ${state}` }, parts);
-  }
-
-  /** A log-in of somebody who may decide, for this decision alone. */
-  form(scan) {
-    const texts = TEXTS.logIn;
-    const user = el("input", { "aria-label": texts.user, placeholder: texts.user });
-    const password = el(
-      "input",
-      { type: "password", "aria-label": texts.password, placeholder: texts.password },
-    );
-    const send = (event) => {
-      event.preventDefault();
-      this.decide(scan, authorizationOf(user.value, password.value));
-    };
-    return el(
-      "form",
-      { on: { submit: send } },
-      user,
-      password,
-      el("button", { type: "submit" }, texts.go),
-    );
   }
 }

@@ -244,7 +244,7 @@ export const TEXTS = {
       noted: "Vermerkt: Die Rolle ist ab, und nichts wurde von ihr bestückt.",
       badge: "NICHT vermerkt: Ausweis scannen, dann noch einmal ABGENOMMEN tippen.",
       failed: "NICHT vermerkt: keine Antwort. Noch einmal ABGENOMMEN tippen.",
-      forbidden: "NICHT vermerkt: Dazu gehört die Anmeldung von jemandem, der entscheiden darf.",
+      forbidden: "NICHT vermerkt: Die Anmeldung dieser Seite darf nicht senden.",
     },
   },
   ask: {

@@ -237,7 +237,7 @@ export const TEXTS = {
       noted: "Anotado: el rollo se quitó y no se colocó nada de él.",
       badge: "NO anotado: escanee su credencial y toque QUITADO otra vez.",
       failed: "NO anotado: sin respuesta. Toque QUITADO otra vez.",
-      forbidden: "NO anotado: hace falta el usuario de alguien que pueda decidir.",
+      forbidden: "NO anotado: el usuario de esta página no puede enviar.",
     },
   },
   ask: {

@@ -223,7 +223,7 @@ export const TEXTS = {
       noted: "Noted: the reel was taken off, and nothing was placed from it.",
       badge: "NOT noted: scan your badge, then touch TAKEN OFF again.",
       failed: "NOT noted: no answer. Touch TAKEN OFF again.",
-      forbidden: "NOT noted: this needs the log-in of somebody who may decide.",
+      forbidden: "NOT noted: the log-in of this page may not send.",
     },
   },
   ask: {

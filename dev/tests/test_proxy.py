@@ -10,9 +10,7 @@ its own:
 """
 import base64
 import contextlib
-import hashlib
 import json
-import os
 import pathlib
 import re
 import socket
@@ -181,66 +179,18 @@ def test_nobody_logs_in_as_the_tools(site: Site) -> None:
     agree("answers", {"Proxy"}, {json.loads(it[2])["Answer"] for it in got[:2]})
 
 
-def test_untraced_work_is_put_once(site: Site) -> None:
-    record = '{"At":"2026-11-27T14:55:02Z","Kind":"refused","Version":1}\n'
-    name = hashlib.sha256(record.encode()).hexdigest()[:32]
-    path, file = f"/line/untraced/{name}.json", site.room / f"line/untraced/op~{name}.json"
-    other = {"Origin": "https://elsewhere.example", "Sec_Fetch_Site": "cross-site"}
-    worked: list[tuple[str, str, Any, Any, dict[str, str], int]] = [
-        ("PUT", path, None, record, {}, 401),
-        ("PUT", path, "office", record, {}, 401),
-        ("PUT", path, "op", record, other, 403),
-        ("PUT", path, "op", "x" * 3 * 2**20 + "x", {}, 413),
-        ("PUT", path.replace(name[-1] + ".json", "G.json"), "op", record, {}, 404),
-        ("PUT", path.replace(".json", ".txt"), "op", record, {}, 404),
-        ("PUT", "/line/untraced/../desk", "op", record, {}, 404),
-        ("GET", "/line/untraced/", "op", None, {}, 404),
-        ("GET", path, "op", None, {}, 403),
-        ("DELETE", path, "op", None, {}, 403),
-        ("MKCOL", path, "op", None, {}, 403),
-    ]
-    for method, at, user, body, headers, status in worked:
-        agree(
-            f"{method} {at} of {user} {headers}",
-            status,
-            site.asked(method, at, user, body, **headers)[0],
-        )
-    agree("the folder", [], os.listdir(site.room / "line/untraced"))
-    agree(
-        "the record is put",
-        (201, record),
-        (
-            site.asked("PUT", path, "op", record, Origin=site.url, Sec_Fetch_Site="same-origin")[0],
-            file.read_text(),
-        ),
-    )
-    agree("its rights", 0o644, file.stat().st_mode & 0o777)
-    agree(
-        "other bytes of its name",
-        (204, record),
-        (site.asked("PUT", path, "op", "other")[0], file.read_text()),
-    )
-    for user in (None, "office", "qm"):  # nobody learns that it is there
-        agree(f"once it is there, by {user}", 401, site.asked("PUT", path, user, record)[0])
-    agree("by a certificate", 201, site.asked("PUT", path, None, record, "m2")[0])
-    long = "x" * 2 * 2**20  # a record of a message of 1 MiB has it twice
-    agree("a long one", 201, site.asked("PUT", path.replace(name, "1" * 32), "op", long)[0])
-    agree(
-        "by a reader's",
-        401,
-        site.asked("PUT", path.replace(name, "0" * 32), None, record, "auditor")[0],
-    )
-
-
 def test_status_is_put_by_senders(site: Site) -> None:
     worked = [
         ("PUT", STATUS, None, 403),
         ("PUT", STATUS, "office", 403),
-        ("PUT", "/line/status/untraced.json", "op", 403),
+        ("PUT", "/line/status/m2.json", "op", 403),
+        ("DELETE", STATUS, "op", 403),
+        ("MKCOL", STATUS, "op", 403),
+        ("PUT", "/line/untraced/" + "0" * 32 + ".json", "op", 403),
         ("PUT", "/line/status/.m1.json", "op", 403),
         ("PUT", "/line/status/m1.txt", "op", 403),
         ("PUT", "/line/status/a/b.json", "op", 403),
-        ("PUT", "/line/status/..%2funtraced%2fm1.json", "op", 404),
+        ("PUT", "/line/status/..%2fdesk%2fm1.json", "op", 404),
         ("GET", STATUS, "office", 403),
         ("GET", "/line/status/", None, 401),
     ]

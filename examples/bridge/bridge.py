@@ -67,7 +67,7 @@ class Bridge:
                 else "".join(traceback.format_exception_only(type(why), why)).strip()
             )
             reason = f"{source}: {reason}" if source else reason
-            self.record(record.text, guess, reason)
+            self.tell_line(record.text, guess, reason)
             name = self.dead.put(record.text, reason)
             self.counts["dead"] += 1
             return Came([f"dead {name}"], [])
@@ -82,18 +82,11 @@ class Bridge:
         self.counts["there already"] += sum(not is_new for _, is_new in put)
         return Came(["kept " + " ".join(name for name, _ in put)], [name for name, _ in put])
 
-    def record(self, text: bytes, guess: dict[str, Any], reason: str) -> None:
-        """Keeps a record of a dead letter that is a report of work, or may be one, as of a refused
-        report.
-        """
-        if not records.is_recorded(guess) or self.dead.has(text):
-            return
-        kept = {**records.kept_of(text, len(text)), "Message": guess}
-        answer = {"Answer": "NotMapped", "Fault": reason[:500]}
-        by = f"tracedesk-bridge {self.kept.spool.name}"
-        self.kept.spool.keep_made(
-            *records.record("refused", by, records.utc(), Answer=answer, **kept)
-        )
+    def tell_line(self, text: bytes, guess: dict[str, Any], reason: str) -> None:
+        """Has the line's book say of a dead letter that it may be work."""
+        if records.may_be_kept(guess) and not self.dead.has(text):
+            guess = {"Source": self.kept.spool.name, **guess}
+            self.kept.spool.put(records.unread(text, guess, reason))
 
     def take(self, data: bytes, source: str = "", front: Optional[Front] = None) -> Came:
         """Takes a line, a file or a body of a source, and comes back once what it gives is on

@@ -47,7 +47,7 @@ def begin(machine: Machine, words: str) -> subprocess.Popen[str]:
 def test_a_sender_goes_on_over_a_roll_over_and_a_copy(machine: Machine) -> None:
     """Each message is taken, and none twice."""
     write_messages(machine, *(part(f"R{number}") for number in range(600)))
-    sending = begin(machine, f"{BY_PASSWORD} --stop-at-refusal")
+    sending = begin(machine, BY_PASSWORD)
     wait_for("it sends", lambda: machine.shell("cat /tmp/sent.answers 2> /dev/null || true"))
     machine.shell("tracedesk-ops rollover L1 2>&1")
     machine.shell("tracedesk-ops seal L1 2>&1")

@@ -1,7 +1,9 @@
 """A plant in small, and what somebody at a station does again and again."""
 import collections
 import contextlib
+import csv
 import datetime
+import io
 import json
 import sqlite3
 from typing import Any, Sequence
@@ -327,7 +329,7 @@ def agrees(operator: Operator) -> None:
                 site.agreed += 1
 
 
-def records(site: Site) -> list[dict[str, Any]]:
-    """The records of untraced work that were handed on, and the decisions about them."""
-    files = [*site.room.glob("line/untraced/*.json"), *site.room.glob("line/decided/*.json")]
-    return [json.loads(file.read_bytes()) for file in files]
+def book(site: Site) -> list[dict[str, str]]:
+    """The entries of the line's book."""
+    text = site.asked("GET", "/line/book?after=0", "office")[2]
+    return list(csv.DictReader(io.StringIO(str(text), newline="")))

@@ -122,9 +122,7 @@ class Site:
             "share",
             "log",
             "temporary",
-            "line/untraced",
             "line/status",
-            "line/decided",
         ):
             (self.room / it).mkdir(parents=True)
         (self.room / "share/station").symlink_to(ROOT / "station")

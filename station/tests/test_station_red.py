@@ -1,13 +1,10 @@
 """Red stays until somebody has seen it, and nothing is dropped without a word."""
-import json
 import time
-from typing import Any
 
-import hashlib
 import pytest
 from station_line import report
 from station_operator import Operator
-from station_plant import GUARD, opened, records, refused, touch, whole
+from station_plant import GUARD, book, opened, refused, touch, whole
 from station_site import SETUP, Site, wait_for
 from tracedesk_dev.trial import Difference
 
@@ -50,14 +47,9 @@ def test_untraced_work_is_red(site: Site) -> None:
         it.does("S/M1/1", "K-2", kind="refused", holds=("TAKEN OFF",))
         it.seen()
 
-        def inbox() -> list[Any]:
-            told = [one for one in records(site) if one["Kind"] == "refused"]
-            return [one["Message"]["MessageBody"] for one in told]
-
-        wait_for(
-            "the refused load is recorded",
-            lambda: inbox() == [{"Machine": "M1", "Slot": "1", "Reel": "K-2"}],
-        )
+        refused = [(one["slot"], one["reel"]) for one in book(site) if one["kind"] == "handling"]
+        if refused != [("1", "K-2")]:
+            raise Difference(f"the book: {refused}")
         site.kill_desk()
         it.does("S/M1/1", "K-3", kind="asked", holds=("NOT VERIFIED", "don't run this slot"))
         it.seen()
@@ -230,17 +222,8 @@ def test_what_is_dropped_is_said(site: Site) -> None:
             raise Difference(f"5 pieces scrapped twice: {report(site, '/reel?reel=K-3')}")
         it.seen()
         it.does("S/M1/1", "A/SCRAP", "9000", kind="refused")
-        records = wait_for(
-            "the record of untraced work", lambda: list((site.room / "line/untraced").iterdir())
-        )
-        told = records[0].read_bytes()
-        if (
-            len(records) != 1
-            or hashlib.sha256(told).hexdigest()[:32] != records[0].stem.rpartition("~")[2]
-            or json.dumps(json.loads(told), sort_keys=True, separators=(",", ":")).encode() + b"\n"
-            != told
-        ):
-            raise Difference(f"a record: {records} {told}")
+        if [one["word"] for one in book(site)] != ["ReelShort"]:
+            raise Difference(f"the book: {book(site)}")
         it.seen()
         site.set_up({**SETUP, "badgeWanted": True})
         it.load()
@@ -250,7 +233,7 @@ def test_what_is_dropped_is_said(site: Site) -> None:
         it.does(kind="refused", holds=("NOT SENT", "K-8"))
         it.seen()
     print(
-        "8 scans without the desk, 1 dropped and said so, 1 asked about; 1 record of untraced work;"
+        "8 scans without the desk, 1 dropped and said so, 1 asked about; 1 entry of untraced work;"
         " NOT SENT outlives a reload"
     )
 

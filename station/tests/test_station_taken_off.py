@@ -7,7 +7,7 @@ from typing import Any
 
 import pytest
 from station_operator import Operator
-from station_plant import GUARD, records
+from station_plant import GUARD, book
 from station_site import Site, wait_for
 from tracedesk_dev.trial import Difference
 from tracedesk_ops import doubts
@@ -28,8 +28,8 @@ GAP = """const [off, seen] = ['.off button', '.close'].map((it) => document.quer
 return Math.max(seen.top - off.bottom, off.top - seen.bottom)"""
 
 
-def decided(site: Site) -> int:
-    return len([it for it in records(site) if it["Kind"] == "decided"])
+def decided(site: Site) -> list[Any]:
+    return [json.loads(it["told"]) for it in book(site) if it["kind"] == "decision"]
 
 
 def wait_for_text(it: Operator, text: str) -> None:
@@ -74,10 +74,9 @@ def causes(site: Site) -> list[dict[str, Any]]:
 
 
 def test_it_is_asked_twice_and_wants_a_badge(site: Site) -> None:
-    """No sends nothing; then the entry is closed, and the record is there for recalls."""
+    """No sends nothing; then the entry is decided about, and the machine may go on."""
     with Operator(site) as it:
         it.ready().does("S/M1/3", "K-2", kind="refused")
-        wait_for("the refusal is handed on", lambda: records(site))
         press(it)
         wait_for_text(it, "is the reel off")
         press(it, 1)
@@ -91,43 +90,34 @@ def test_it_is_asked_twice_and_wants_a_badge(site: Site) -> None:
         press(it)
         press(it)
         wait_for_text(it, "Noted: the reel was taken off")
-        (told,) = [one for one in records(site) if one["Kind"] == "decided"]
+        (told,) = decided(site)
         if told["Became"] != doubts.TAKEN_OFF or "anna" not in told["By"] or causes(site):
             raise Difference(f"a decision: {told}, {causes(site)}")
 
 
-def test_an_inbox_that_is_away_is_said(site: Site) -> None:
-    folder = site.room / "line/decided"
+def test_a_reel_is_taken_off_after_the_right_one_was_loaded(site: Site) -> None:
+    """The entry isn't open any more, but recalls doubt what was placed until then."""
     with Operator(site) as it:
         it.ready().scan("B/anna")
         it.does("S/M1/3", "K-2", kind="refused")
-        wait_for("the refusal is handed on", lambda: records(site))
-        folder.rename(folder.with_name("away"))
+        site.say("MaterialsSpliced", {"Machine": "M1", "Slot": "3", "Reel": "K-7"})
+        wait_for("the entry is closed", lambda: not causes(site))
+        press(it)
+        press(it)
+        wait_for_text(it, "Noted: the reel was taken off")
+        if [one["of"] for one in book(site)] != ["0", "1"]:
+            raise Difference(f"{book(site)}")
+
+
+def test_a_line_that_is_away_is_said(site: Site) -> None:
+    with Operator(site) as it:
+        it.ready().scan("B/anna")
+        it.does("S/M1/3", "K-2", kind="refused")
+        site.kill_desk()
         press(it)
         press(it)
         wait_for_text(it, "NOT noted: no answer")
-        folder.with_name("away").rename(folder)
+        site.start_desk()
         press(it)
         press(it)
-        wait_for("it is noted", lambda: decided(site) == 1)
-
-
-def test_a_log_in_that_may_not_decide(site: Site) -> None:
-    """The log-in of somebody who may decide for recalls is asked for on the red screen, for this
-    decision alone.
-    """
-    (site.room / "etc/deciders").write_text(site.lines["qm"])
-    with Operator(site) as it:
-        it.ready().scan("B/anna")
-        it.does("S/M1/3", "K-2", kind="refused")
-        wait_for("the refusal is handed on", lambda: records(site))
-        press(it)
-        press(it)
-        wait_for_text(it, "NOT noted: this needs the log-in")
-        it.script(
-            """const form = document.querySelector('#verdict .off form'), [user, password] = form.querySelectorAll('input');
-            user.value = password.value = 'qm'; form.requestSubmit();"""
-        )
-        wait_for_text(it, "Noted: the reel was taken off")
-        if decided(site) != 1:
-            raise Difference(f"decisions: {records(site)}")
+        wait_for("it is noted", lambda: len(decided(site)) == 1)

@@ -3,7 +3,7 @@ all tests.
 
     /usr/bin/python3 -m pytest clients/python/tests -m gate
     /usr/bin/python3 -m pytest clients/python/tests/test_interlock.py -k mended
-    /usr/bin/python3 -m pytest clients/python/tests/test_outside.py --outside 3000
+    /usr/bin/python3 -m pytest clients/python/tests/test_line_world.py --walks 1000 --seed 7
 """
 import pathlib
 import sys
@@ -18,8 +18,6 @@ from line_lab import Line, Served  # noqa: E402
 
 
 def pytest_addoption(parser: pytest.Parser) -> None:
-    about = "so many runs of senders under a model of what is outside (15)"
-    parser.addoption("--outside", type=int, default=15, metavar="N", help=about)
     about = "so many walks of a machine that obeys the interlock (3)"
     parser.addoption("--walks", type=int, default=3, metavar="N", help=about)
 

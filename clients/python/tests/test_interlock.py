@@ -337,7 +337,6 @@ def test_a_difference_stops_the_machine_until_its_slot_is_loaded(line: Line) -> 
     line.scan("MaterialsUnloaded", "1")
     line.scan("MaterialsLoaded", "1", "1-K3")
     assert line.word() == "go B1"
-    assert not line.spool.made(), "the line has it, and no record says it once more"
 
 
 def test_somebody_who_looked_decides_about_a_difference(line: Line) -> None:

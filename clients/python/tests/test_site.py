@@ -4,7 +4,6 @@ interlock.
 from __future__ import annotations
 
 import contextlib
-import hashlib
 import json
 import os
 import pathlib
@@ -14,21 +13,17 @@ import sys
 import tempfile
 import time
 from typing import Any, Callable, Dict, Iterator, List, Tuple
-from unittest import mock
 
 import pytest
 
 ROOT = pathlib.Path(__file__).resolve().parents[3]
-sys.path[:0] = [str(ROOT / "station/tests"), str(ROOT / "ops")]
+sys.path.insert(0, str(ROOT / "station/tests"))
 import at_port  # noqa: E402
 from station_site import Site  # noqa: E402
-from tracedesk_ops import inboxes  # noqa: E402
 
 HAS_NGINX = shutil.which("nginx", path=os.environ.get("PATH", "") + ":/usr/sbin")
 SENDER = ROOT / "clients/python/tracedesk-send"
-RECORD = '{"At":"2026-11-27T14:55:02Z","Kind":"refused","Version":1}\n'
-PATH = f"/line/untraced/{hashlib.sha256(RECORD.encode()).hexdigest()[:32]}.json"
-DECIDED = PATH.replace("untraced", "decided")
+DECISIONS = "/line/decisions"
 FOREIGN: List[Dict[str, str]] = [
     {"Origin": "https://elsewhere.example"},
     {"Sec_Fetch_Site": "cross-site"},
@@ -45,49 +40,11 @@ def site(program: pathlib.Path, line_program: pathlib.Path) -> Iterator[Any]:
             yield made
 
 
-def file_of(site: Any, path: str, user: str) -> pathlib.Path:
-    """The file of what a log-in put."""
-    folder, _, name = path.partition("/line/")[2].partition("/")
-    found: pathlib.Path = site.room / "line" / folder / f"{user}~{name}"
-    return found
-
-
-def put(site: Any, path: str, user: "str | None" = None, text: str = RECORD, **more: Any) -> int:
-    status: int = site.asked("PUT", path, user, text, **more)[0]
-    return status
-
-
 def test_no_place_of_the_line_asks_a_browser_for_a_password(site: Any) -> None:
     """A page's request, which says that it is one, is answered without a challenge."""
-    for path in (PATH, DECIDED):
-        for user, dest, wanted in ((None, None, 401), ("office", "empty", 403)):
-            status, _, body = site.asked("PUT", path, user, RECORD, Sec_Fetch_Dest=dest)
-            assert (status, json.loads(body)) == (wanted, {"Answer": "Proxy", "Fault": "LogIn"})
-
-
-def test_a_decision_wants_a_log_in_of_its_own(site: Any) -> None:
-    for user, certificate in ((None, None), ("office", None), (None, "m2"), ("m1", None)):
-        assert put(site, DECIDED, user, certificate=certificate) == 401
-    assert (put(site, DECIDED, "qm"), put(site, DECIDED, "qm")) == (201, 204)
-    assert file_of(site, DECIDED, "qm").read_text() == RECORD
-
-
-def test_where_too_much_of_a_log_in_waits_it_alone_puts_no_more(site: Any) -> None:
-    """The tool that collects makes the marks; what nobody can make a row of counts."""
-    inbox = site.room / "line/untraced"
-    names = [f"/line/untraced/{number:032}.json" for number in range(4)]
-    m2: Dict[str, Any] = {"certificate": "m2", "text": "x" * 1000}
-    assert put(site, names[0], **m2) == 201
-    with mock.patch.object(inboxes, "MOST_OF_ONE", 999):
-        assert len(inboxes.limit(inbox)) == 1
-    assert put(site, names[1], **m2) == 507
-    assert put(site, names[1], "op") == put(site, DECIDED[:-6] + "0.json", "qm") == 201
-    with mock.patch.object(inboxes, "MOST_WAITING", 999):
-        inboxes.limit(inbox)
-    assert put(site, names[2], **m2) == put(site, names[2], "op") == 507
-    file_of(site, names[0], "m2").unlink()
-    assert inboxes.limit(inbox) == []
-    assert put(site, names[3], **m2) == put(site, names[3], "op") == 201
+    for user, dest, wanted in ((None, None, 401), ("office", "empty", 403)):
+        status, _, body = site.asked("POST", DECISIONS, user, "{}", Sec_Fetch_Dest=dest)
+        assert (status, json.loads(body)) == (wanted, {"Answer": "Proxy", "Fault": "LogIn"})
 
 
 def test_a_sender_puts_its_own_status(site: Any) -> None:
@@ -98,12 +55,12 @@ def test_a_sender_puts_its_own_status(site: Any) -> None:
         (None, "m2", "m2", 201),
         (None, "m2", "op", 403),
         ("op", "m2", "op", 403),
-        ("op", None, "untraced", 403),
         ("office", None, "office", 401),
         (None, None, "op", 403),
     ):
         path = f"/line/status/{name}.json"
-        assert put(site, path, user, "{}", certificate=certificate) == status, (user, name)
+        found = site.asked("PUT", path, user, "{}", certificate=certificate)[0]
+        assert found == status, (user, name)
     assert (site.room / "line/status/op.json").read_text() == "{}"
 
 
@@ -112,7 +69,7 @@ def test_what_another_site_has_a_browser_send_is_refused(
     site: Any, headers: Dict[str, str]
 ) -> None:
     for method in ("PUT", "POST", "DELETE", "OPTIONS", "MKCOL"):
-        for path in ("/line/status/op.json", PATH, DECIDED, "/messages", "/station/messages"):
+        for path in ("/line/status/op.json", DECISIONS, "/messages", "/station/messages"):
             status, _, body = site.asked(method, path, "op", "{}", **headers)
             assert (status, json.loads(body)["Fault"]) == (403, "OtherSite"), (method, path)
     wanted = 403 if "Origin" in headers else 200

@@ -147,7 +147,6 @@ def test_a_run_leaves_no_file_open(lab: Lab) -> None:
 
 
 def test_an_answer_that_ends_anywhere_is_there_with_all_that_follows(lab: Lab) -> None:
-    """The record too, which is made once."""
     text = b'{"MessageName":"TraceDesk.WorkStarted"}'
     for answer in (accepted(1), refused()):
         for number in range(1, 9):
@@ -166,9 +165,7 @@ def test_an_answer_that_ends_anywhere_is_there_with_all_that_follows(lab: Lab) -
                     assert is_ended and (after.is_tried(name) or number < 2)
                     after.done(name, answer)
             assert lab.texts() == [b"b"] and after.names() == [behind]
-            taken = answers.is_taken(answer)
-            assert len(after.made()) == (not taken)
-            assert after.names("sent" if taken else "aside") == [name]
+            assert after.names("sent" if answers.is_taken(answer) else "aside") == [name]
     assert not is_ended
 
 

@@ -28,7 +28,7 @@ from .answers import (
 )
 from .desk import Desk, GivenUp, NotTaken, NotThere, trust_of
 from .forms import Command, Message, OutOfRange
-from .sender import Folder, Lines, Sender, Stopped
+from .sender import Sender
 from .disk import SpoolError
 from .spool import Spool
 from .words import (
@@ -61,10 +61,8 @@ __all__ = [
     "Command",
     "Desk",
     "Faulty",
-    "Folder",
     "GivenUp",
     "Ignored",
-    "Lines",
     "Meaning",
     "Message",
     "NotFound",
@@ -75,7 +73,6 @@ __all__ = [
     "Sender",
     "Spool",
     "SpoolError",
-    "Stopped",
     "Unavailable",
     "Verdict",
     "is_taken",

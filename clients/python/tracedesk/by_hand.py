@@ -92,6 +92,6 @@ def again(asked: argparse.Namespace, into: spool.Spool) -> int:
     if reports:
         tell(
             f"{len(reports)} reports of work stay in {into.path}: the boards are untraced work."
-            " Decide about each by tracedesk-untraced"
+            " Decide about their entries in the line's book (docs/line.md)"
         )
     return 6 if reports else 0

@@ -1,41 +1,23 @@
-"""Records of what the desk did not take: reports of work, and loads, splices and unloads.
-
-A record is one line of JSON. Its id is made of its bytes, and its file is ID.json, so the same
-record is there once, whatever is killed. A spool makes records in its folder `untraced`. From there
-they are handed on to the inbox of the line.
-"""
+"""What can be read of a message, also of one that a desk can't read."""
 from __future__ import annotations
 
-import base64
 import hashlib
 import json
 import re
 import time
-from typing import Any, Dict, Optional, Tuple
+from typing import Any, Dict, Optional
 
-from . import forms, words
+from . import words
 
-MOST_LISTED = 1_000  # elements of a list of a message that is too long
+MOST_TOLD = 1_000  # letters of a member of what can't be read
 MOST_DEEP = 32  # lists and objects in one another; those of a message are 5 at most
 # a string of JSON, also one that is cut off, and what begins or ends a list or an object
 TOKEN = re.compile(rb'"[^"\\]*(?:\\.[^"\\]*)*(?:"|\\?\Z)|[\[\]{}]', re.DOTALL)
 
 
 def utc(seconds: Optional[float] = None) -> str:
-    """A second of the clock, as a record has it: now, or another one."""
+    """A second of the clock: now, or another one."""
     return time.strftime("%Y-%m-%dT%H:%M:%SZ", time.gmtime(seconds))
-
-
-def spelled(told: Dict[str, Any]) -> bytes:
-    return (
-        json.dumps({**told, "Version": 1}, sort_keys=True, separators=(",", ":")).encode() + b"\n"
-    )
-
-
-def record(kind: str, by: str, at: str, **more: Any) -> Tuple[str, bytes]:
-    """The id of a record, and its bytes."""
-    text = spelled({"Kind": kind, "By": by, "At": at, **more})
-    return hashlib.sha256(text).hexdigest()[:32], text
 
 
 def is_report(told: Dict[str, Any]) -> bool:
@@ -46,9 +28,9 @@ def is_report(told: Dict[str, Any]) -> bool:
     return not isinstance(name, str) or name in words.REPORTS_OF_WORK
 
 
-def is_recorded(told: Dict[str, Any]) -> bool:
-    """Whether a record is made of a message that isn't taken: a report of work, or a load, splice
-    or unload.
+def may_be_kept(told: Dict[str, Any]) -> bool:
+    """Whether the line's book has an entry of a message that isn't taken: of a report of work, and
+    of a load, splice or unload.
     """
     return is_report(told) or told["MessageName"] in words.RECORDED
 
@@ -91,18 +73,26 @@ def as_read(text: bytes) -> Dict[str, Any]:
     return told if isinstance(told, dict) else {}
 
 
-def kept_of(text: bytes, size: int) -> Dict[str, Any]:
-    """What a record has of a message: what was read, and each byte as it came. Of one that is too
-    long for any desk it has the beginning of each list, how long it is, and the SHA-256 of its
-    bytes; these stay where the sender set them aside.
+def is_unread(told: Dict[str, Any]) -> bool:
+    """Whether a message says of another one that no desk can read it."""
+    return "TimeStamp" not in told and {"Why", "Text", "Sha256"} <= told.keys()
+
+
+def unread(text: bytes, told: Dict[str, Any], why: str, name: str = "") -> bytes:
+    """A message that says of another one, or of a machine's record, that no desk can read it. It
+    has no time, so it is faulty: by that the line's book has an entry of it, with its bytes unless
+    they are too many.
     """
-    told = as_read(text)
-    if size <= forms.LONGEST_MESSAGE:
-        return {"Message": told, "Raw": base64.b64encode(text).decode()}
+    sum_ = hashlib.sha256(text).hexdigest()
     body = told.get("MessageBody")
-    if isinstance(body, dict):
-        cut = {name: it[:MOST_LISTED] if isinstance(it, list) else it for name, it in body.items()}
-        told = {**told, "MessageBody": cut}
-    if len(json.dumps(told)) > forms.LONGEST_MESSAGE:
-        told = {}
-    return {"Message": told, "Sha256": hashlib.sha256(text).hexdigest(), "Size": size}
+    its = body.items() if isinstance(body, dict) else ()
+    message = {
+        "UniqueID": name or f"unread-{sum_[:32]}",
+        **{it: told[it] for it in ("MessageName", "Source") if isinstance(told.get(it), str)},
+        "MessageBody": {it: value for it, value in its if len(json.dumps(value)) <= MOST_TOLD},
+        "Why": why[:MOST_TOLD],
+        "Text": text.decode("utf-8", "backslashreplace") if len(text) <= 100 * MOST_TOLD else None,
+        "Sha256": sum_,
+        "Size": len(text),
+    }
+    return json.dumps(message).encode()

@@ -19,8 +19,7 @@ examples:
   tracedesk-send --spool m1 --put mended.jsonl
   tracedesk-send --spool m1 --again 000000000007
   tracedesk-send --spool m1 --again 2026-03-02T06:00Z
-  tracedesk-send --spool m1 --stay --untraced /var/lib/tracedesk/untraced \\
-      --status /var/lib/tracedesk/status
+  tracedesk-send --spool m1 --stay --status /var/lib/tracedesk/status
   tracedesk-send --url https://desk.plant --ca server.crt --user m1 --password-file m1.password \\
       --spool m1 --follow /m1/out --interlock /usr/local/bin/permit --machine M1
   tracedesk-send --url https://desk.plant --ca server.crt --user m1 --password-file m1.password \\
@@ -48,9 +47,6 @@ may put messages in. The file is on a disk of this computer.
                  wait, and none that was refused: after the desk was restored from a copy of that
                  time. Messages that the desk has already aren't done twice. No sender may run
                  meanwhile
---untraced       where the records of reports of work that were not taken go: a folder, or
-                 https://desk.plant/line/untraced. Without it they are kept in the spool, and are
-                 handed on once it is named
 --status         where NAME.json lists every few seconds the messages that wait or were set aside,
                  and the state of machines: a folder, or https://desk.plant/line/status
                  The proxy takes it under the name of the log-in only
@@ -84,10 +80,8 @@ there: IdReused. The desk is asked whether its archive has that message. If it h
 done, and a line on standard error says so.
 
 A message that is refused, faulty, too long, or Ignored though its name begins with TraceDesk. was
-not taken. It is set aside in the spool, with the reason, and the next one is sent.
---stop-at-refusal  ends the run at such a message, on standard error. A request stays the next one
-                   that is sent, so that it is sent again once its fault is mended. A report of work
-                   is done with: it is set aside
+not taken. It is set aside in the spool, with the reason, and the next one is sent. The line's book
+has an entry of each report of work among them, also of one that is too long to be sent.
 --patience SECONDS  for one message, else without an end. A line after ten seconds, and then each
                    minute, says that there is no answer, and why
 The password is in FILE, or in the environment as TRACEDESK_PASSWORD.
@@ -95,9 +89,9 @@ The password is in FILE, or in the environment as TRACEDESK_PASSWORD.
 A full disk, and a file that can't be read, are reported and waited out. Standard output may be
 closed: nothing more is printed.
 
-Exit status: 0 every message has its answer, or the check found no fault; 1 stopped at a message
-that was not taken, or some are set aside in this run, or the check found a fault; 2 bad command
-line, or a file or a spool that can't be used; 3 given up: no answer in all the time that was given;
+Exit status: 0 every message has its answer, or the check found no fault; 1 some messages were set
+aside in this run, or the check found a fault; 2 bad command line, or a file or a spool that can't
+be used; 3 given up: no answer in all the time that was given;
 4 a message can't be sent so, and standard error says why; 5 an error of this program, which
 standard error has; 6 a report of work is not sent again: a person has to decide. With 3, 4 and 5
 what has no answer is sent by the next run.
@@ -105,14 +99,15 @@ what has no answer is sent by the next run.
 from __future__ import annotations
 
 import argparse
+import functools
 import os
 import pathlib
 import re
 import sqlite3
 import sys
-from typing import List, Optional
+from typing import Optional
 
-from . import __version__, by_hand, command, desk, disk, interlock, sender, spool, untraced
+from . import __version__, by_hand, command, desk, disk, interlock, sender, spool, status
 from . import validate
 from .console import NAME, ended, say, tell
 
@@ -139,14 +134,6 @@ def spool_of(asked: argparse.Namespace) -> spool.Spool:
     return spool.Spool(asked.spool, asked.keep_days, most, name_of(asked))
 
 
-def places_of(asked: argparse.Namespace) -> List[Optional[untraced.Place]]:
-    """Where records and the status go."""
-    return [
-        untraced.Place(it, lambda url: desk_of(asked, url, untraced.TIMEOUT)) if it else None
-        for it in (asked.untraced, asked.status)
-    ]
-
-
 def run_spool(asked: argparse.Namespace, to: desk.Desk) -> int:
     into = spool_of(asked)
     follower: Optional[sender.Follower] = None
@@ -156,7 +143,11 @@ def run_spool(asked: argparse.Namespace, to: desk.Desk) -> int:
         follower = sender.Folder(into, pathlib.Path(asked.follow), tell)
     states = interlock.Interlock(into, asked.machine, asked.silence, asked.every)
     calls = command.Command(states, asked.interlock, tell) if asked.interlock else None
-    run = sender.Sender(into, to, asked.stop_at_refusal, tell, states, calls, *places_of(asked))
+    at: Optional[status.Status] = None
+    if asked.status:
+        desk_at = functools.partial(desk_of, asked, timeout=status.TIMEOUT)
+        at = status.Status(asked.status, desk_at, to, states, tell)
+    run = sender.Sender(into, to, tell, states, calls, at)
     if calls:
         command.end_at_signal(calls)
     run.run(follower, asked.stay)
@@ -205,7 +196,6 @@ def reader_of_words() -> argparse.ArgumentParser:
     reader.add_argument("--password-file", metavar="FILE")
     reader.add_argument("--cert", metavar="FILE", help="a certificate in place of a password")
     reader.add_argument("--key", metavar="FILE", help="its key")
-    reader.add_argument("--stop-at-refusal", action="store_true")
     reader.add_argument("--patience", type=float, metavar="SECONDS", help="for one message")
     reader.add_argument(
         "--timeout",
@@ -242,7 +232,7 @@ def reader_of_words() -> argparse.ArgumentParser:
     what.add_argument("--list", choices=(*by_hand.STATES, "all"))
     what.add_argument("--check", action="store_true")
     what.add_argument("--validate", metavar="FILE")
-    for name in ("untraced", "status", "name", "interlock"):
+    for name in ("status", "name", "interlock"):
         reader.add_argument(f"--{name}")
     reader.add_argument("--machine", action="append", default=[])
     reader.add_argument("--silence", type=float, default=interlock.SILENCE)
@@ -331,7 +321,6 @@ def main() -> int:
     return ended(
         lambda: run(asked),
         {
-            sender.Stopped: 1,
             disk.SpoolError: 2,
             sqlite3.Error: 2,
             OSError: 2,

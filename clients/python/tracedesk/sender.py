@@ -10,17 +10,22 @@ import threading
 import time
 from typing import Any, BinaryIO, Callable, Dict, Iterator, Optional, Tuple
 
-from . import answers, forms, records, untraced
+from . import answers, forms, records, words
 from .console import NEWS_OF_A_FAULT, patiently
 from .desk import Desk
 from .command import Command
 from .interlock import Interlock
 from .disk import files_in, lines_of, lock_alone
 from .spool import MOST_READ, Spool, uid_of
+from .status import Status
 
 LOOK = 0.2  # seconds between two looks at a folder
 FOLLOWER = "the sender's own source"  # the name of its lease
 
+IS_REPORT = (
+    ". It is a report of work, and isn't sent again: a person decides about its entry in the line's"
+    " book"
+)
 JUDGED = ("WorkStarted", "WorkCompleted")  # after which a machine's state is another
 
 
@@ -36,29 +41,24 @@ def contradicts(told: Dict[str, Any], answer: answers.Answer) -> bool:
     return any(its not in (None, desk) for its, desk in zip(named, answer.reels))
 
 
-class Stopped(Exception):
-    """The answer to a message that was not taken, where the run ends at one."""
-
-
 class Sender:
-    """The one sender of a spool. `stops` ends the run at a message that is not taken; else that one
-    is set aside. A report of work is always set aside, and never sent again."""
+    """The one sender of a spool. A message that is not taken is set aside; a report of work is never
+    sent again.
+    """
 
     def __init__(
         self,
         spool: Spool,
         desk: Desk,
-        stops: bool = False,
         tell: Callable[[str], None] = lambda line: None,
         interlock: Optional[Interlock] = None,
         command: Optional[Command] = None,
-        inbox: Optional[untraced.Place] = None,
-        status: Optional[untraced.Place] = None,
+        status: Optional[Status] = None,
     ) -> None:
-        self.spool, self.desk, self.stops, self.tell = spool, desk, stops, tell
+        self.spool, self.desk, self.tell = spool, desk, tell
         self.interlock, self.command = interlock or Interlock(spool, []), command
-        self.line = untraced.Line(spool, desk, self.interlock, inbox, status, tell)
-        self.sent = self.aside = 0
+        self.status = status
+        self.aside = 0
         self.news, self.dropped, self.next_news = threading.Event(), 0, 0.0
 
     def answer_to(self, name: str) -> Tuple[answers.Answer, Dict[str, Any]]:
@@ -68,6 +68,9 @@ class Sender:
         text = patiently(lambda: self.spool.text(name), self.tell)
         told = records.as_read(text if len(text) <= MOST_READ else b"")
         if len(text) > forms.LONGEST_MESSAGE:
+            if records.may_be_kept(told):
+                why = words.FAULTS["LineTooLong"]
+                self.desk.send(records.unread(text, told, why, uid_of(text)[:64]))
             return answers.LINE_TOO_LONG, told
         _, is_tried = patiently(lambda: self.spool.take(name), self.tell)
         try:
@@ -86,48 +89,19 @@ class Sender:
         for name in names:
             self.interlock.ask(self.desk)
             answer, told = self.answer_to(name)
-            is_taken, is_report = answers.is_taken(answer), records.is_report(told)
-            if (
-                answers.word_of(told) in JUDGED
-                or contradicts(told, answer)
-                or not is_taken
-                and records.is_recorded(told)
-            ):
+            is_taken = answers.is_taken(answer)
+            if answers.word_of(told) in JUDGED or contradicts(told, answer) or not is_taken:
                 self.interlock.forget(told)  # until the answer is kept its message waits
                 self.interlock.ask(self.desk)
             if not is_taken:
-                self.refused(name, answer, is_report)
-            self.keep(name, answer)
-            if is_report and not is_taken and self.stops:
-                raise self.stopped(name, answer)
+                self.aside += 1
+                self.tell(
+                    f"message {name} is {answers.why(answer)}. It is set aside in {self.spool.path}"
+                    + (IS_REPORT if records.is_report(told) else "")
+                )
+            patiently(lambda: self.spool.done(name, answer), self.tell)
+            self.look_at_what_is_kept()
         return len(names)
-
-    def stopped(self, name: str, answer: answers.Answer) -> "Stopped":
-        said = answer.text.decode(errors="replace")
-        return Stopped(f"message {name} is {answers.why(answer)}\n{said}")
-
-    def refused(self, name: str, answer: answers.Answer, is_report: bool) -> None:
-        """Reports that a message is not taken; a request may end the run."""
-        if self.stops and not is_report:
-            patiently(lambda: self.spool.untried(name), self.tell)  # this was its answer
-            raise self.stopped(name, answer)
-        self.tell(
-            f"message {name} is {answers.why(answer)}. It is set aside in {self.spool.path}"
-            + (
-                ". It is a report of work, and isn't sent again: a person decides about"
-                f" it{self.line.where_kept()}"
-                if is_report
-                else ""
-            )
-        )
-        self.aside += 1
-
-    def keep(self, name: str, answer: answers.Answer) -> None:
-        """Keeps an answer, and what follows of it."""
-        at = records.utc()
-        patiently(lambda: self.spool.done(name, answer, at), self.tell)
-        self.sent += 1
-        self.look_at_what_is_kept()
 
     def look_at_what_is_kept(self) -> None:
         """Once a minute forgets what was sent long ago, or is too much. Reports messages that were
@@ -148,12 +122,13 @@ class Sender:
         """Sends until nothing waits; with a follower until that has ended; or for good."""
         with contextlib.ExitStack() as held:
             held.enter_context(self.spool.sending())
-            held.callback(self.line.look)
+            if self.status:
+                held.callback(self.status.put)
+                self.status.begin()
             if self.command:
                 held.enter_context(self.interlock.held(self.command.command))
                 held.callback(self.command.end)
                 self.command.begin()
-            self.line.begin()
             if follower:
                 held.enter_context(follower.held())
                 follower.begin(self.news)

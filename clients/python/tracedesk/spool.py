@@ -36,10 +36,9 @@ CREATE TABLE IF NOT EXISTS message (
   n INTEGER PRIMARY KEY AUTOINCREMENT, text BLOB NOT NULL, uid TEXT NOT NULL,
   state TEXT NOT NULL DEFAULT 'waiting' CHECK (state IN ('waiting', 'sent', 'aside', 'dropped')),
   tried INTEGER NOT NULL DEFAULT 0, came REAL NOT NULL, answered REAL, answer BLOB,
-  archived INTEGER NOT NULL DEFAULT 0, record TEXT NOT NULL DEFAULT '');
+  archived INTEGER NOT NULL DEFAULT 0);
 CREATE INDEX IF NOT EXISTS message_of_state ON message (state, n);
 CREATE INDEX IF NOT EXISTS message_of_uid ON message (uid);
-CREATE TABLE IF NOT EXISTS record (id TEXT PRIMARY KEY, text BLOB NOT NULL);
 CREATE TABLE IF NOT EXISTS taken (file TEXT PRIMARY KEY, lines INTEGER NOT NULL);
 CREATE TABLE IF NOT EXISTS feeder (name TEXT PRIMARY KEY, ahead REAL NOT NULL, at REAL NOT NULL);
 CREATE TABLE IF NOT EXISTS kept (name TEXT PRIMARY KEY, value TEXT NOT NULL);
@@ -62,8 +61,6 @@ class Kept(NamedTuple):
     text: bytes
     state: str
     answer: Optional[answers.Answer]
-    answered: str
-    record: str
 
     @property
     def why(self) -> str:
@@ -95,7 +92,7 @@ def uid_of(text: bytes) -> str:
 
 class Spool:
     """A spool, which is made if there is none. Sent messages are kept for `days`, and of at most so
-    many bytes. Its name is in records.
+    many bytes. Its name is that of the sender.
     """
 
     def __init__(
@@ -267,33 +264,17 @@ class Spool:
         """Says that a message which was taken was not sent, or had its answer."""
         self.change("UPDATE message SET tried = 0 WHERE n = ?", number_of(name))
 
-    def done(self, name: str, answer: answers.Answer, at: str = "") -> None:
-        """Keeps the answer to a message, the record that is made of it, and where it belongs
-        now.
-        """
-        record, is_taken = "", answers.is_taken(answer)
-        with self.whole():
-            text = self.text(name)
-            read = text if len(text) <= MOST_READ else b""
-            if not is_taken and records.is_recorded(records.as_read(read)):
-                record, its = records.record(
-                    "refused",
-                    f"tracedesk-send {self.name}",
-                    at or records.utc(),
-                    Answer=answers.read_object(answer.text),
-                    **records.kept_of(read, len(text)),
-                )
-                self.keep_made(record, its)
-            self.change(
-                "UPDATE message SET state = ?, answered = ?, answer = ?, archived = ?, record = ?"
-                " WHERE n = ? AND state = 'waiting'",
-                "sent" if is_taken else "aside",
-                time.time(),
-                answer.text,
-                answers.is_archived(answer),
-                record,
-                number_of(name),
-            )
+    def done(self, name: str, answer: answers.Answer) -> None:
+        """Keeps the answer to a message, and where it belongs now."""
+        self.change(
+            "UPDATE message SET state = ?, answered = ?, answer = ?, archived = ?"
+            " WHERE n = ? AND state = 'waiting'",
+            "sent" if answers.is_taken(answer) else "aside",
+            time.time(),
+            answer.text,
+            answers.is_archived(answer),
+            number_of(name),
+        )
 
     def has_accepted(self, unique_id: str, name: str) -> bool:
         """Whether the desk accepted another message of this spool under this UniqueID."""
@@ -308,7 +289,8 @@ class Spool:
 
     def again_since(self, since: float) -> List[str]:
         """Puts each message that was sent since this second of the clock before those that wait,
-        under its old name.
+        under its old name; they are returned. Behind them goes what was not taken since then, as
+        far as the book of the line that was restored has lost an entry of it.
         """
         with self.sending(), self.whole():
             its = self.rows(
@@ -318,6 +300,16 @@ class Spool:
             )
             for (n,) in its:
                 self.change("UPDATE message SET state = 'waiting', tried = 1 WHERE n = ?", n)
+            for (text,) in self.rows(
+                "SELECT text FROM message WHERE state IN ('aside', 'dropped') AND answered >= ?"
+                " ORDER BY n",
+                since,
+            ):
+                told = records.as_read(text if len(text) <= MOST_READ else b"")
+                if records.is_unread(told):
+                    self.put(text)
+                elif records.may_be_kept(told):
+                    self.put(records.unread(text, told, "it was refused before a restore"))
         return [spelled(n) for (n,) in its]
 
     def forget(self) -> None:
@@ -337,16 +329,13 @@ class Spool:
     # --- What was set aside
 
     def kept(self, name: str) -> Kept:
-        text, state, answer, archived, answered, record = self.row(name)
+        text, state, answer, archived = self.row(name)
         told = answers.read(answer, bool(archived)) or answers.LINE_TOO_LONG if answer else None
-        at = records.utc(answered) if answered else ""
-        return Kept(name, bytes(text), state, told, at, record)
+        return Kept(name, bytes(text), state, told)
 
     def row(self, name: str) -> Any:
-        its = self.rows(
-            "SELECT text, state, answer, archived, answered, record FROM message WHERE n = ?",
-            number_of(name),
-        )
+        query = "SELECT text, state, answer, archived FROM message WHERE n = ?"
+        its = self.rows(query, number_of(name))
         if not its:
             raise SpoolError(f"{self.path} has no message {name}: --list all names them")
         return its[0]
@@ -390,17 +379,6 @@ class Spool:
             for name in names:
                 self.is_report(name)
                 self.change("UPDATE message SET state = 'dropped' WHERE n = ?", number_of(name))
-
-    # --- Records that aren't handed on yet
-
-    def made(self) -> List[Tuple[str, bytes]]:
-        return [(id_, bytes(text)) for id_, text in self.rows("SELECT * FROM record ORDER BY id")]
-
-    def keep_made(self, id_: str, text: bytes) -> None:
-        self.change("INSERT OR REPLACE INTO record VALUES (?, ?)", id_, text)
-
-    def handed_on(self, id_: str) -> None:
-        self.change("DELETE FROM record WHERE id = ?", id_)
 
     # --- Leases, and what else outlives a program
 

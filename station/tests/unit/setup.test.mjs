@@ -28,7 +28,7 @@ test("a page whose address has a log-in reads its set-up, and all else", async (
   assert.equal(read.machines[0].machine, "M1");
   await desk.maySend();
   await desk.post("{}", "u");
-  await desk.putRecord({ id: "0", text: "{}" });
+  await desk.entryOf("u").catch(() => {});
   await desk.decide({ Of: 1 });
   await session.logIn("m1", "secret").catch(() => {});
   assert.ok(asked.length >= 6 && asked.every((it) => it.startsWith("https://desk/")), asked);
