@@ -89,6 +89,8 @@ def test_a_line_that_this_user_may_not_look_into_stops_no_other(
         (b"line = L2\nline = L3\n", "is there twice"),
         (b"line = L1\ndb = /srv/desk\n", "have line = L1"),
         (b"line = L2\n", "have db = /var/lib/tracedesk/desk"),
+        (b"line = L2\nmirror = /srv/l2\nport = 8082\n", "names the mirror, and no more"),
+        (b"line = L1\nmirror = /srv/l1\n", "have line = L1"),
         # else what is told one of them would be told the other
         (b"line = L2\ndb = /srv/desk\nport = 8080\n", "have port = 8080"),
     ],
@@ -100,6 +102,13 @@ def test_a_wrong_file_is_named_and_what_is_wrong(
     (tmp_path / "L2.conf").write_bytes(text)
     with pytest.raises(places.NotSetUp, match=wrong):
         places.lines()
+
+
+def test_a_mirror_is_no_line_of_this_machine(set_up: SetUp) -> None:
+    set_up("L1", line="L1")
+    set_up("L2", line="L2", mirror="/srv/l2")
+    assert [its.line for its in places.lines()] == ["L1"]
+    assert places.folders() == [("L1", places.HOME), ("L2", pathlib.Path("/srv/l2"))]
 
 
 def test_the_port_of_the_packages_desk_is_no_other_lines(set_up: SetUp) -> None:

@@ -13,7 +13,6 @@ from lab.desk import START, Desk
 from lab.line import Line
 from test_recall_page import Site
 from tracedesk_dev.ports import free_port
-from tracedesk_ops import places
 
 pytestmark = [pytest.mark.needs("python:flask"), pytest.mark.xdist_group("recall_page")]
 
@@ -33,15 +32,7 @@ def line(line_program: pathlib.Path, tmp_path_factory: pytest.TempPathFactory) -
 
 @pytest.fixture
 def site(line: Line, tmp_path: pathlib.Path, monkeypatch: pytest.MonkeyPatch) -> Site:
-    (tmp_path / "etc").mkdir()
-    monkeypatch.setattr(places, "FOLDER", tmp_path / "etc")
-    set_up("L1", line.port)
-    return Site(line, tmp_path)
-
-
-def set_up(name: str, port: int) -> None:
-    db = places.FOLDER / name / "desk"
-    (places.FOLDER / f"{name}.conf").write_text(f"line = {name}\ndb = {db}\nport = {port}\n")
+    return Site(line, tmp_path, monkeypatch)
 
 
 def answer(site: Site, kind: str, names: str, **more: Any) -> str:
@@ -93,11 +84,13 @@ def test_a_reason_that_no_book_takes_is_refused(site: Site, reason: str) -> None
 def test_a_line_that_is_not_held_is_named(site: Site, line: Line) -> None:
     """The others are held. Each question is asked of the lines that are set up then."""
     assert "Released: L-3, on all" in answer(site, "release lot", "L-3")
-    set_up("L2", free_port())
+    site.set_up("L2", db="/srv/L2/desk", port=free_port())
+    site.set_up("L3", mirror="/srv/L3")
     page = answer(site, "hold lot", "L-3")
     assert "NOT HELD on each line" in page and "L2: L-3: its desk can't be asked" in page
+    assert "L3: its desk is on another computer" in page
     assert "in the book of L1: L-3" in page and causes(line) == ["K-3"]
-    for file in places.FOLDER.glob("*.conf"):
+    for file in site.etc.glob("*.conf"):
         file.unlink()
     assert "no line is set up on this machine" in answer(site, "release lot", "L-3")
 

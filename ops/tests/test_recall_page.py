@@ -15,11 +15,14 @@ import zipfile
 from typing import Any
 
 import pytest
+from lab import OPS
 from lab.line import Line
+from lab.recalls import last_minute
 from lab.tools import KILL_AFTER, KILLED, Word, run, tool
 from lab.waits import wait_for
 from tracedesk_dev import processes
-from tracedesk_ops.recallpage import jobs, papers
+from tracedesk_ops import places
+from tracedesk_ops.recallpage import jobs, papers, view
 from tracedesk_ops.recallpage.jobs import Queue
 from tracedesk_ops.recallpage.worker import Worker
 
@@ -32,23 +35,32 @@ SHIPPED = b"board,customer,date\nSN-3,Customer A,2026-03-09\n"
 
 
 class Site:
-    """The page over a small line, and who works off its queue."""
+    """The page over a small line that is set up, and who works off its queue."""
 
-    def __init__(self, line: Line, folder: pathlib.Path) -> None:
-        self.line, self.folder = line, folder
+    def __init__(self, line: Line, folder: pathlib.Path, monkeypatch: pytest.MonkeyPatch) -> None:
+        self.line, self.folder, self.etc = line, folder, folder / "etc"
         self.queue = Queue(folder / "queue")
         for name in ("asked", "answers"):
             (self.queue.folder / name).mkdir(parents=True)
-        self.asked_folder = line.folder
+        self.etc.mkdir()
+        monkeypatch.setattr(places, "FOLDER", self.etc)
+        monkeypatch.setenv("TRACEDESK_SET_UP", str(self.etc))
+        monkeypatch.setenv("PROGRAM", str(line.program))
+        self.set_up("L1", db=line.file, port=line.port)
         made = importlib.import_module("tracedesk_ops.recallpage.app").make(self.queue.folder)
         self.client = made.test_client()
 
-    def more(self) -> list[Word]:
-        return ["--program", self.line.program, "--line", "L1", self.asked_folder]
+    def set_up(self, name: str, **words: object) -> None:
+        rows = [f"{word} = {words[word]}\n" for word in words]
+        (self.etc / f"{name}.conf").write_text(f"line = {name}\n{''.join(rows)}")
 
     def worker(self) -> Worker:
-        more = [str(word) for word in self.more()]
-        return Worker(self.queue, tool("recall"), more)
+        return Worker(self.queue, tool("recall"))
+
+    def worked_off(self, at: str) -> str:
+        """The page of an answer, once all are worked off."""
+        self.worker().work(is_once=True)
+        return self.page(at)
 
     def get(self, target: str, reader: str = "anna") -> Any:
         return self.client.get(target, headers={"X-Reader": reader} if reader else {})
@@ -75,8 +87,8 @@ def line(small_line: Line) -> Line:
 
 
 @pytest.fixture
-def site(line: Line, tmp_path: pathlib.Path) -> Site:
-    return Site(line, tmp_path)
+def site(line: Line, tmp_path: pathlib.Path, monkeypatch: pytest.MonkeyPatch) -> Site:
+    return Site(line, tmp_path, monkeypatch)
 
 
 # --- A whole recall
@@ -127,16 +139,37 @@ def test_the_papers_have_the_answer(site: Site) -> None:
         assert {"certificate.json", "SHA256SUMS"} <= set(packed.namelist())
 
 
+def mirror_of(site: Site) -> str:
+    """Sets a mirror of the line up in its place; until when its newest file goes."""
+    mirror, (file,) = site.folder / "mirror", (site.line.folder / "sealed").glob("*.desk")
+    shutil.copytree(file.parent, mirror / "sealed")
+    (site.etc / "L1.conf").unlink()
+    site.set_up("L2", mirror=mirror)
+    return last_minute(file)
+
+
 def test_an_answer_that_is_not_complete_says_why(site: Site) -> None:
-    mirror = site.folder / "mirror/L1"
-    shutil.copytree(site.line.folder / "sealed", mirror / "sealed")
-    site.asked_folder = mirror
-    at = site.asked("lot", "L-3")
-    site.worker().work(is_once=True)
-    page = site.page(at)
+    """As over a mirror of months ago."""
+    until = mirror_of(site)
+    page = site.worked_off(site.asked("lot", "L-3"))
     assert "NOT COMPLETE: 0 boards hold a piece of lot L-3, and more may be missing." in page
-    assert f"L1: {mirror} has no desk" in page
+    assert f"L2: {site.folder / 'mirror'} has no desk" in page and "pull a newer mirror" in page
+    assert view.spelled(until) in page
     assert "Mend what is named, then ask again." in page
+
+
+PATIENT = f"""import runpy, sys; sys.path.insert(0, {str(OPS)!r})
+from tracedesk_ops.recalls import surveyed; surveyed.OLDEST = 1 << 40
+runpy.run_path({str(tool("recall"))!r}, run_name="__main__")"""
+
+
+def test_over_a_mirror_an_answer_is_complete_until_it_ends(site: Site) -> None:
+    """Here mirrors of months ago count."""
+    until = mirror_of(site)
+    at = site.asked("lot", "240131")
+    (site.folder / "patient").write_text(PATIENT)
+    Worker(site.queue, site.folder / "patient").work(is_once=True)
+    assert f"Complete as of {view.spelled(until)}: 2 boards hold a piece" in site.page(at)
 
 
 def test_without_the_libraries_the_other_papers_are_there(
@@ -157,10 +190,10 @@ def test_without_the_libraries_the_other_papers_are_there(
 
 def test_a_kill_amid_a_recall_loses_nothing(site: Site) -> None:
     at = site.asked("lot", "L-3")
-    words: list[Word] = [tool("recall-page"), "work", "--once", "--queue", site.queue.folder, "--"]
-    killed = run([*words, *site.more()], env={KILL_AFTER: "recalled"})
+    words: list[Word] = [tool("recall-page"), "work", "--once", "--queue", site.queue.folder]
+    killed = run(words, env={KILL_AFTER: "recalled"})
     assert killed.status == KILLED and "It is worked off." in site.page(at)
-    run([*words, *site.more()]).expect()
+    run(words).expect()
     assert "Complete: 1 board" in site.page(at)
 
 

@@ -202,11 +202,19 @@ def chromium(site: RecallSite) -> Iterator[Any]:
 
 
 @pytest.fixture
-def reader(site: RecallSite, line: Line, chromium: Any) -> Reader:
+def reader(
+    site: RecallSite,
+    line: Line,
+    chromium: Any,
+    tmp_path: pathlib.Path,
+    monkeypatch: pytest.MonkeyPatch,
+) -> Reader:
     """Who recalls over a small line."""
-    more = ["--program", str(line.program), "--line", "L1", str(line.folder)]
-    worker = Worker(site.queue, tool("recall"), more)
-    made = Reader(site, chromium, worker)
+    text = f"line = L1\ndb = {line.file}\nport = {line.port}\n"
+    (tmp_path / "L1.conf").write_text(text)
+    monkeypatch.setenv("TRACEDESK_SET_UP", str(tmp_path))
+    monkeypatch.setenv("PROGRAM", str(line.program))
+    made = Reader(site, chromium, Worker(site.queue, tool("recall")))
     made.opens()
     return made
 

@@ -4,7 +4,11 @@
     port = 8081
 
 A line is the folder of its desk, and all of its places are in it: /var/lib/tracedesk/LINE, or
-/var/lib/tracedesk itself for the package's own service, or that of the desk that `db` names.
+/var/lib/tracedesk itself for the package's own service, or that of the desk that `db` names. Of a
+line on another computer a file may name a mirror:
+
+    line = L2
+    mirror = /srv/mirror/L2
 """
 from __future__ import annotations
 
@@ -22,8 +26,8 @@ FOLDER = Path(os.environ.get("TRACEDESK_SET_UP", "/etc/tracedesk"))
 PROXYS = "certificates.conf"  # it is there too: packaging/nginx.conf
 HOME = Path("/var/lib/tracedesk")
 DESK, PORT = HOME / "desk", 8080
-WORDS = "line db port stop start key".split()
-PATHS = ("db", "key")
+WORDS = "line db port stop start key mirror".split()
+PATHS = ("db", "key", "mirror")
 SECTION = "line"  # configparser wants one, and set-up files have none
 
 
@@ -53,7 +57,8 @@ class Places:
 
     def words(self) -> dict[str, str]:
         """The words of the set-up file, and what follows from them."""
-        words = {name: str(getattr(self, name)) for name in (*WORDS, "url", "archive")}
+        names = [*(its.name for its in dataclasses.fields(self)), "url", "archive"]
+        words = {name: str(getattr(self, name)) for name in names}
         return {name: value for name, value in words.items() if value}
 
 
@@ -90,16 +95,27 @@ def lines() -> list[Places]:
     """The lines that are set up on this machine; a NotSetUp if a file is wrong, or two name one
     desk or one port. Port 8080 is that of the package's own desk.
     """
-    found = [of_words(words) for words in files()]
+    those = [words for words in files() if "mirror" not in words]
+    found = [of_words(words) for words in those]
     want_no_two("db", [str(its.db) for its in found])
     want_no_two("port", [str(its.port) for its in found])
-    for its, words in zip(found, files()):
+    for its, words in zip(found, those):
         if "port" not in words and its.db != DESK:
             raise NotSetUp(
                 f"{FOLDER}: {its.line} names no port, and {PORT} is that of {DESK}: write port = N"
                 " into its file"
             )
     return found
+
+
+def mirrors() -> list[tuple[str, Path]]:
+    """The lines on other computers that have a mirror here, and its folder."""
+    return [(words["line"], Path(words["mirror"])) for words in files() if "mirror" in words]
+
+
+def folders() -> list[tuple[str, Path]]:
+    """The lines of this machine and those on others, each with its folder."""
+    return [*((its.line, its.db.parent) for its in lines()), *mirrors()]
 
 
 @functools.cache
@@ -143,6 +159,8 @@ def words_in(path: Path) -> dict[str, str]:
             f"{path}: {', '.join(wrong)} is none of {', '.join(WORDS)}, has no value, is no whole "
             "path, or is a db other than /FOLDER/desk in a folder of the line's own"
         )
+    if "mirror" in words and words.keys() - {"line", "mirror"}:
+        raise NotSetUp(f"{path}: of a line on another computer it names the mirror, and no more")
     if "line" not in words:
         raise NotSetUp(f"{path} names no line: write line = LINE into it, or take it away")
     return words

@@ -40,7 +40,7 @@ from tracedesk_ops import loading, options, places, plant, reader_of
 
 def folders_of(words: argparse.Namespace) -> list[tuple[str, pathlib.Path]]:
     """The lines that are to be loaded, and their folders."""
-    set_up = [(its.line, its.db.parent) for its in places.lines()]
+    set_up = places.folders()
     if not words.paths:
         return [its for its in set_up if words.line in (None, its[0])]
     names = {folder.resolve(): name for name, folder in set_up}

@@ -31,7 +31,8 @@ of the values. A reel whose receipt doesn't say it may be one of them: then the 
 --line          a line's name, and its folder. Of a line on another computer name a mirror of it:
                 its newest sealed file stands for the desk
 --as-of TIME    the answer is complete for what was reported before, if each mirror goes on to it;
-                without this option none over a mirror is complete
+                without this option none over a mirror is complete. With `mirrors` it is the time to
+                which all of them go, but for those of two days ago
 --within PIECES  a label may be wrong by so many pieces: those so near a splice that they may be of
                 the neighbour are doubtful, from the second splice of a tape on the more
 --show TABLE    the table to print as CSV; without it pieces of a board, and boards of a lot or reel
@@ -96,7 +97,7 @@ def asked(asks: argparse.Namespace, lines: list[Line], room: pathlib.Path) -> Re
         for text in (*(f"NOT ASKED: {why}" for why in faults), *its.notes):
             plant.tell(text)
         words.stop(f"no reel is one of {its.question.name}", 3 if faults else 1)
-    question = its.question._replace(within=asks.within, as_of=asks.as_of)
+    question = its.question._replace(within=asks.within, as_of=those.as_of)
     its = its._replace(question=question)
     chain = chains.Asker(asks.program, its.question.words(listed_in(room, its.question)))
     recall = Recall(its.question, those, chain)

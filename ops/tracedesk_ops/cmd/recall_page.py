@@ -1,20 +1,19 @@
 """Recalls in a browser: serves the page, or works off its queue.
 
 usage: tracedesk-recall-page serve [--socket FILE] [--queue FOLDER]
-       tracedesk-recall-page work [--queue FOLDER] [--once] [-- WORD..]
+       tracedesk-recall-page work [--queue FOLDER] [--once]
 
 examples:
   tracedesk-recall-page serve                      as the unit does, for the proxy in front of it
   tracedesk-recall-page work                       as the other unit does: one recall at a time, at
                                                    low priority
-  tracedesk-recall-page work --once -- --line L1 /mirror/L1
-                                                   other lines than those that are set up; the words
-                                                   are tracedesk-recall's
+  TRACEDESK_SET_UP=/srv/set-up tracedesk-recall-page work --once
+                                                   lines whose set-up files are in another folder
 
 The proxy lets readers with a log-in of /etc/tracedesk/recallers in, and names them in the header
 X-Reader. `serve` takes their questions into the queue, and shows the answers. It reads no desk's
-file. `work` calls tracedesk-recall for each of them, and writes holds and releases into the books
-of the lines that are set up. What is cut off, as by a restart, is done anew. A recall that takes
+file. `work` calls tracedesk-recall for each of them, over the lines and the mirrors that are set
+up, and writes holds and releases into the books of the lines. What is cut off, as by a restart, is done anew. A recall that takes
 more than four hours is stopped, and each ends, so that the next one is run. A program of a recall
 may take 4 GiB, and a paper five minutes of the processor. The queue is on disk, and answers stay
 there until somebody deletes them.
@@ -47,16 +46,11 @@ MISSING = 3
 
 def parse() -> argparse.Namespace:
     reader = reader_of(__doc__)
-    own, more = sys.argv[1:], []
-    if "--" in own:
-        place = own.index("--")
-        own, more = own[:place], own[place + 1 :]
     reader.add_argument("what", choices=("serve", "work"))
     reader.add_argument("--queue", type=pathlib.Path, default=QUEUE, metavar="FOLDER")
     reader.add_argument("--socket", type=pathlib.Path, default=SOCKET, metavar="FILE")
     reader.add_argument("--once", action="store_true")
-    words = reader.parse_args(own)
-    words.more = more
+    words = reader.parse_args()
     for folder in (words.queue / "asked", words.queue / "answers"):
         if not folder.is_dir():
             reader.error(f"there is no folder {folder}: make it, or name another one by --queue")
@@ -77,7 +71,7 @@ def work(words: argparse.Namespace) -> None:
     from tracedesk_ops.recallpage.worker import Worker
 
     recall = pathlib.Path(sys.argv[0]).resolve().with_name("tracedesk-recall")
-    Worker(Queue(words.queue), recall, words.more).work(words.once)
+    Worker(Queue(words.queue), recall).work(words.once)
 
 
 def main() -> int:

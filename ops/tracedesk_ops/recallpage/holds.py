@@ -6,6 +6,7 @@ from __future__ import annotations
 import contextlib
 import http.client
 import json
+import pathlib
 
 from tracedesk_ops.places import Places
 from tracedesk_ops.recallpage.jobs import Asked
@@ -13,6 +14,7 @@ from tracedesk_ops.recallpage.view import ShownAnswer
 
 ROUTES = {"hold": ("/line/holds", "Held"), "release": ("/line/releases", "Released")}
 SECONDS = 60.0  # for which a desk's answer is waited for
+ELSEWHERE = "its desk is on another computer: say it on the page there too"
 NO_BOOK = "its server keeps no book: tracedesk-line serve does, and IT switches it on"
 
 
@@ -41,10 +43,13 @@ def said_to(line: Places, asked: Asked, name: str) -> str:
         return f"its desk can't be asked: {fault}"
 
 
-def answer_to(asked: Asked, lines: "list[Places]") -> ShownAnswer:
-    """Says it to each line, of each name."""
+def answer_to(
+    asked: Asked, lines: "list[Places]", mirrors: "list[tuple[str, pathlib.Path]]"
+) -> ShownAnswer:
+    """Says it to each line, of each name. A mirror has no desk to which it could be said."""
     done = ROUTES[asked.kind.split()[0]][1]
-    wrong, well = list[str](), list[str]()
+    wrong = [f"{line}: {ELSEWHERE}" for line, _ in mirrors]
+    well = list[str]()
     for line in lines:
         for name in asked.listed:
             fault = said_to(line, asked, name)
@@ -56,6 +61,6 @@ def answer_to(asked: Asked, lines: "list[Places]") -> ShownAnswer:
         headline=f"{done}: {', '.join(asked.listed)}, on all lines of this machine."
         if is_whole
         else f"NOT {done.upper()} on each line. Say it again once the lines below are mended.",
-        reasons=wrong if lines else ["no line is set up on this machine"],
+        reasons=wrong or ["no line is set up on this machine"] * (not lines),
         notes=[f"{done} by {asked.badge}, in the book of {text}" for text in well],
     )

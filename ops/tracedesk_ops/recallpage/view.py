@@ -145,7 +145,7 @@ def answer_of(evidence: pathlib.Path) -> ShownAnswer:
     return ShownAnswer(
         title=f"Recall of {told['title']}",
         is_complete=told["answer"]["is_complete"],
-        headline=told["sentence"],
+        headline=spelled(told["sentence"]),
         reasons=reasons_of(told),
         notes=told["notes"],
         tables=[*boards_of(evidence), *tables],

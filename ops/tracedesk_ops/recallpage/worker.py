@@ -12,12 +12,12 @@ import signal
 import subprocess
 import sys
 import time
-from collections.abc import Sequence
 
 from tracedesk_ops import places, plant
 from tracedesk_ops.recallpage import holds, pages, papers, view
 from tracedesk_ops.recallpage.jobs import HOLDS, SAID, Asked, Job, Queue
 from tracedesk_ops.recallpage.view import ShownAnswer
+from tracedesk_ops.recalls.surveyed import BY_MIRRORS
 
 NICE = 15
 SECONDS_BETWEEN_LOOKS = 1.0
@@ -30,11 +30,10 @@ DONE, NO_QUESTION, NOT_DONE, FULL, FAILED, STOPPED = 0, 2, 3, 4, 9, 124
 
 @dataclasses.dataclass(frozen=True)
 class Worker:
-    """Who works off a queue by tracedesk-recall, with these more words."""
+    """Who works off a queue by tracedesk-recall."""
 
     queue: Queue
     recall: pathlib.Path
-    more: Sequence[str] = ()
     seconds: float = MOST_SECONDS
     # the names of those that can't be ended
     left: set[str] = dataclasses.field(default_factory=set)
@@ -77,7 +76,7 @@ class Worker:
             return NOT_DONE, view.failed(asked.title, "NOT DONE: it is of another day. Ask again.")
         if asked.kind in HOLDS:
             places.files.cache_clear()  # a line may have been set up since
-            answer = holds.answer_to(asked, places.lines())
+            answer = holds.answer_to(asked, places.lines(), places.mirrors())
             return (DONE if answer.is_complete else NOT_DONE), answer
         if shutil.disk_usage(job.folder).free < LEAST_FREE:
             why = "The disk of the desk's machine is nearly full: make room."
@@ -93,7 +92,7 @@ class Worker:
 
     def recalled(self, job: Job, asked: Asked) -> int:
         """The status of tracedesk-recall, or STOPPED."""
-        options = [f"--evidence={job.folder / 'evidence'}", *self.more]
+        options = [f"--evidence={job.folder / 'evidence'}", f"--as-of={BY_MIRRORS}"]
         if shipped := job.shipped:
             (job.folder / "shipped.csv").write_bytes(shipped)
             options.append(f"--shipped={job.folder / 'shipped.csv'}")

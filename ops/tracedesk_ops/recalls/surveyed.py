@@ -10,21 +10,31 @@ from tracedesk_ops.firstlook import Line
 from tracedesk_ops.line import LineFolder
 
 
+BY_MIRRORS = "mirrors"  # in the place of a minute: as far as they go
+OLDEST = 2 * 24 * 60  # minutes that a mirror may be behind then
+
+
 class Surveyed:
     """The files of each line, from the oldest on; `faults` are what can't be asked, and `notes`
     what a reader has to know. Copies of the running desks are made in `room`. A line without its
-    desk has to be known until the minute `as_of`.
+    desk has to be known until the minute `as_of`, or until that in which the mirrors end.
     """
 
-    def __init__(self, lines: Sequence[Line], room: pathlib.Path, as_of: int | None = None) -> None:
-        self.lines, self.room, self.as_of = lines, room, as_of
+    def __init__(
+        self, lines: Sequence[Line], room: pathlib.Path, as_of: int | str | None = None
+    ) -> None:
+        self.lines, self.room = lines, room
         self.minute = datetime.datetime.now(datetime.timezone.utc)
         self.files: dict[str, list[catalogue.Archive]] = {}
         self.stamps: dict[str, tuple[set[str], set[str]]] = {}  # as they were before
         self.faults: list[str] = []
         self.notes: list[str] = []
+        self.mirrors: dict[Line, catalogue.Archive | None] = {}  # with the newest file of each
         for line in lines:
             self.survey(line)
+        self.as_of = self.end_of_mirrors() if isinstance(as_of, str) else as_of
+        for line, newest in self.mirrors.items():
+            self.without_desk(line, newest)
 
     def paths(self) -> Iterator[tuple[str, pathlib.Path]]:
         """Each file, with its line's name."""
@@ -50,7 +60,7 @@ class Surveyed:
         if not line.folder.is_dir():
             self.faults.append(f"{line.folder}: there is no such folder: mount its disk")
         elif not its.desk.exists():
-            self.without_desk(line, newest)
+            self.mirrors[line] = newest
         elif survey.desk and not plant.is_open(its.desk):
             self.faults.append(
                 f"{line.name}: no desk of this machine has {its.desk} open: pieces that came since"
@@ -58,6 +68,12 @@ class Surveyed:
             )
         if not survey.archives:
             self.notes.append(f"{line.name}: no archives yet in {line.folder}")
+
+    def end_of_mirrors(self) -> int | None:
+        """The minute until which all mirrors go that aren't too old."""
+        least = int(self.minute.timestamp()) // 60 - OLDEST
+        ends = [newest.last_minute for newest in self.mirrors.values() if newest]
+        return min((end for end in ends if end >= least), default=None)
 
     def without_desk(self, line: Line, newest: catalogue.Archive | None) -> None:
         """Takes that a line has no desk here. Its newest sealed file may go far enough: a desk's

@@ -12,6 +12,7 @@ from tracedesk_ops import catalogue, options, places, plant, reader_of
 from tracedesk_ops.firstlook import Line
 from tracedesk_ops.recalls import sets
 from tracedesk_ops.recalls.evidence import read_once
+from tracedesk_ops.recalls.surveyed import BY_MIRRORS
 from tracedesk_ops.recalls.tables import Shipped
 
 SHIPPED = ("board", "customer", "date")  # the columns of a list of shipped boards
@@ -32,7 +33,7 @@ def parse(text: str | None) -> argparse.Namespace:
     )
     parser.add_argument("--part", type=options.identifier, help="of lots, this part alone")
     parser.add_argument("--within", type=pieces, default=0, metavar="PIECES")
-    parser.add_argument("--as-of", type=options.minute_of, metavar="TIME")
+    parser.add_argument("--as-of", type=end_of_mirrors, metavar="TIME")
     parser.add_argument("--line", nargs=2, action="append", default=[], metavar=("LINE", "FOLDER"))
     parser.add_argument("--show", choices=("boards", "pieces", "reels", "untraced", "doubtful"))
     for option, metavar in (
@@ -62,6 +63,11 @@ def pieces(text: str) -> int:
     return int(text)
 
 
+def end_of_mirrors(text: str) -> int | str:
+    """A minute, or that in which the mirrors end."""
+    return text if text == BY_MIRRORS else options.minute_of(text)
+
+
 def want_sense(words: argparse.Namespace) -> None:
     """Stops where some words don't go together."""
     if words.kind == "board" and len(words.names) > 1:
@@ -83,10 +89,7 @@ def want_sense(words: argparse.Namespace) -> None:
 
 def lines_of(words: argparse.Namespace) -> list[Line]:
     """The lines that are asked: those of the command line, else those of the set-up files."""
-    told = words.line or [
-        (it["line"], str(pathlib.Path(it["db"]).parent)) for it in options.set_ups()
-    ]
-    lines = [line_of(*it) for it in told]
+    lines = [line_of(name, str(folder)) for name, folder in words.line or places.folders()]
     for named in ([it.name for it in lines], [str(it.folder) for it in lines]):
         for it in named:
             if named.count(it) > 1:
