@@ -10,9 +10,8 @@ import pytest
 from lab.recalls import Asking, lot_of, recall, state_of
 from lab.world import World
 from tracedesk_ops import catalogue, chains
-from tracedesk_ops.firstlook import Piece, Question
-from tracedesk_ops.recalls.recall import Recall
-from tracedesk_ops.recalls.surveyed import Surveyed
+from tracedesk_ops.firstlook import Piece
+from tracedesk_ops.recalls.recall import twice
 
 pytestmark = [pytest.mark.xdist_group("recall")]
 
@@ -20,10 +19,10 @@ CHANGED = "its files were changed meanwhile, as by a roll-over or a restore: ask
 ALL = [pytest.param(24, id="some"), pytest.param(1, id="all", marks=pytest.mark.whole)]
 # a tracedesk-chain that ends otherwise: how, and what a recall says then
 ENDS = {
-    "exit 1": ("differs minute 1 2", "NOT A CHAIN: L1: L1-1: differs minute 1 2"),
+    "exit 1": ("differs minute 1 2", "its files are no chain: L1-1: differs minute 1 2"),
     "exit 3": ("Unavailable", "gives no answer: L1-1: Unavailable"),
     "exit 4": ("NotWritten", "gives no answer: L1-1: NotWritten"),
-    "exit 5": ("begun from 0123", "NOT ASKED: L1: L1-1: begun from 0123"),
+    "exit 5": ("begun from 0123", "its files are no chain: L1-1: begun from 0123"),
     "kill -9 $$": ("gone", "gives no answer: L1-1: gone"),
     "echo board,file": ("odd", "it is another version"),
 }
@@ -80,12 +79,18 @@ def test_archives_stay_as_they_are(world: World, folder: pathlib.Path) -> None:
     assert state_of(world) == before
 
 
-def test_a_desk_that_is_a_copy_of_another_lines_is_named(folder: pathlib.Path) -> None:
+@pytest.mark.parametrize(
+    "others, is_twice",
+    [
+        ({"line": "L2"}, True),  # as of a desk that is a copy
+        ({"reel": "K-2"}, True),  # a board's name came again
+        ({"line": "L2", "reel": "K-2"}, False),
+        ({"designator": "C2"}, False),
+    ],
+)
+def test_a_piece_that_is_placed_twice_is_named(others: dict[str, str], is_twice: bool) -> None:
     piece = Piece("B1", "C1", "P", "L", "K", "M", "1", "no", 5, "L1", catalogue.RUNNING)
-    its = Recall(Question("lot", "L"), Surveyed([], folder), chains.Asker("none", []))
-    its.pieces = [piece, piece._replace(line="L2")]
-    its.doubt()
-    assert its.status() == 3 and "desks of L1 and L2 have the same pieces" in its.doubts[0]
+    assert len([*twice([piece, piece._replace(**others)])]) == is_twice
 
 
 # --- What changes while it is asked

@@ -72,15 +72,13 @@ def test_a_certificate_for_a_customer_names_nothing_of_others() -> None:
     says = "L1: L1-2: differs board SN-2 in work old"
     its = {"folder": "/srv/L1", "archives": [{"file": "L1-2", "why": says}]}
     told: dict[str, Any] = {
-        "not_asked": ["/srv/L1: 2 commands of W1 anna are in /srv/L1/lost/x.desk"],
-        "no_chain": [says],
-        "twice": ["L1: 2 pieces are there twice, as C1 of SN-2"],
+        "reasons": ["/srv/L1: 2 commands of W1 anna are in /srv/L1/lost/x.desk", says],
         "notes": [f"{says}: as by a roll-over"],
         "lines": [its],
     }
     customers.hide(told)
     assert not [word for word in ("SN-2", "anna", "srv") if word in str(told)]
-    assert told["not_asked"] == told["no_chain"] == told["twice"] != []
+    assert told["reasons"] == [customers.SAID_TO_THE_PLANT]
 
 
 def test_a_name_that_a_spreadsheet_takes_for_a_formula_is_said(
@@ -92,7 +90,7 @@ def test_a_name_that_a_spreadsheet_takes_for_a_formula_is_said(
 
 def test_a_serial_that_nobody_knows_is_named(line: Line, folder: pathlib.Path) -> None:
     done = recall(line, folder, SHIPPED + "SN-9,Customer A,2026-03-09\n")
-    done.expect(3, "2 are not known", "NOT ASKED: 1 serials of Customer A", "SN-9")
+    done.expect(3, "2 are not known", "NOT COMPLETE: 1 serials of Customer A", "SN-9")
     rows = table((folder / "to/serials.csv").read_text())
     assert [row["holds"] for row in rows] == ["yes", "not known", "not known"]
 

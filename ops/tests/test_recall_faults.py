@@ -51,7 +51,7 @@ def test_what_is_altered_is_named(
     words = ["lot", lot_of(world), *copied(line, folder / "L1"), "--show", "pieces"]
     link_desk(line, folder / "L1")
     change(folder / "L1/sealed" / first)
-    done = recall(*words).expect(3, "NOT ASKED: ", said, "NOT COMPLETE")
+    done = recall(*words).expect(3, said, "NOT COMPLETE: ")
     assert files_of(table(done.out)) == files - {first}
 
 

@@ -155,7 +155,6 @@ def test_an_answer_that_is_not_complete_says_why(site: Site) -> None:
     assert "NOT COMPLETE: 0 boards hold a piece of lot L-3, and more may be missing." in page
     assert f"L2: {site.folder / 'mirror'} has no desk" in page and "pull a newer mirror" in page
     assert view.spelled(until) in page
-    assert "Mend what is named, then ask again." in page
 
 
 PATIENT = f"""import runpy, sys; sys.path.insert(0, {str(OPS)!r})
@@ -264,13 +263,13 @@ def test_a_list_that_is_none_is_named(site: Site, text: bytes) -> None:
     at = site.asked("lot", "L-3", shipped=(io.BytesIO(text), "s.csv"))
     site.worker().work(is_once=True)
     page = site.page(at)
-    assert "The question was not understood." in page and "shipped.csv" in page
+    assert "shipped.csv: it" in page and "It ended without an answer." in page
 
 
 def test_a_list_that_is_too_large_is_refused(site: Site) -> None:
     most = importlib.import_module("tracedesk_ops.recallpage.app").MOST_BYTES
     told = site.ask("lot", "L-3", shipped=(io.BytesIO(bytes(most)), "s.csv"))
-    assert told.status_code == 413 and "The file is too large." in told.get_data(as_text=True)
+    assert told.status_code == 413 and "capacity limit" in told.get_data(as_text=True)
     assert not site.queue.all()
 
 

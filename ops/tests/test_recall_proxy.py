@@ -254,7 +254,7 @@ def test_a_desk_that_is_away_is_named_in_a_browser(reader: Reader, line: Line) -
         line.serve()
     assert reader.waits().startswith("NOT COMPLETE: 2 boards hold a piece of lot 240131")
     assert "L1: no desk of this machine has" in reader.text
-    assert "Mend what is named, then ask again." in reader.text and "SN-1" in reader.text
+    assert "SN-1" in reader.text
     colour = reader.page.find_element("id", "answer").value_of_css_property("color")
     assert colour == "rgba(183, 28, 28, 1)"
     reader.expect_well_shown()

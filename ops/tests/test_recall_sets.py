@@ -77,7 +77,7 @@ def test_a_mirror_without_such_a_reel_is_not_complete(line: Line, folder: pathli
     """One may have been received since."""
     shutil.copytree(line.archive, folder / "L1/sealed")
     done = run_tool("recall", "where", "lot=none", "--line", "L1", folder / "L1")
-    done.expect(3, "NOT ASKED: L1: ", "has no desk", "no reel is one of")
+    done.expect(3, "NOT COMPLETE: L1: ", "has no desk", "no reel is one of")
 
 
 def test_reels_whose_receipts_say_no_attribute_are_named(line: Line) -> None:

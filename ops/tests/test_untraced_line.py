@@ -116,7 +116,7 @@ def test_a_report_with_any_text_is_kept_recalled_and_verified(plant: Plant, name
     evidence = plant.line.folder / "evidence"
     key = key_in(plant.line.folder.parent, "key")
     words: list[Word] = [*plant.line.recall_words(), "--evidence", evidence, "--key", key]
-    run_tool("recall", "lot", "L-K-1", *words).expect(3, "nobody decided about it")
+    run_tool("recall", "lot", "L-K-1", *words).expect(3, "L1: nobody decided about")
     run_tool("verify", evidence, "--signers", signers_of(key)).expect()
     for row in rows:
         plant.decide(row["n"], "scrapped")

@@ -19,6 +19,7 @@ from lab.line import table
 from lab.recalls import key_in, lot_of, places_in, recall, signers_of
 from lab.tools import Ended, Word, run, run_tool
 from lab.world import RUNNING, World
+from tracedesk_ops import plant as ops
 from tracedesk_ops.cmd import verify
 from tracedesk_ops.recalls import signing, verifying
 from tracedesk_ops.recalls.evidence import sums_of
@@ -124,11 +125,10 @@ def test_a_customer_needs_no_tools_of_ours(plant: Plant) -> None:
 
 def test_the_certificate_names_programs_and_files(plant: Plant) -> None:
     told = told_in(plant.evidence)
-    programs = {its["name"]: its for its in told["programs"]}
-    file = shutil.which(str(plant.world.program)) or ""
-    sha256 = subprocess.run(["sha256sum", file], stdout=subprocess.PIPE, check=True).stdout[:64]
-    assert programs["tracedesk"]["sha256"] == sha256.decode()
-    assert len(programs["tracedesk-chain"]["sha256"]) == 64
+    file = ops.chain_of(str(plant.world.program)) or ""
+    sha256 = subprocess.check_output(["sha256sum", file], text=True)[:64]
+    assert told["programs"]["tracedesk-chain"]["sha256"] == sha256
+    assert len(told["programs"]["tracedesk-recall"]["sha256"]) == 64
     archives = [its["file"] for its in told["lines"][0]["archives"]]
     assert archives == [*(file.name for file in plant.world.first.archived), RUNNING]
     assert told["question"] == {"kind": "lot", "name": plant.lot}

@@ -161,7 +161,7 @@ class Asking:
     def tables(self, kind: str, name: str) -> Tables:
         """What the tool prints, as rows of its tables."""
         its = self.begun(kind, name, len(self.lines), lambda: None)
-        assert not its.faults + its.breaks + its.doubts, f"{kind} {name}"
+        assert not its.faults, f"{kind} {name}"
         found = tables_of(its, None).items()
         return {name: table(catalogue.csv_text(rows)) for name, rows in found}
 

@@ -206,8 +206,7 @@ class Batch:
         with files.Room() as room:
             told = Recall(question, Surveyed([self.line], pathlib.Path(room)), self.chain)
             told.ask()
-        faults = told.faults + told.breaks + told.doubts
-        assert not faults, f"a recall of {lot}: {faults}"
+        assert not told.faults, f"a recall of {lot}: {told.faults}"
         return told
 
     def count(self, run: Run) -> None:

@@ -50,8 +50,7 @@ of the values. A reel whose receipt doesn't say it may be one of them: then the 
                 tracedesk-recall-sign; without it the `key` of the line's set-up file, if it has one
 
 Exit status: 0 all were asked; 1 all were asked, and none knows the name; 2 bad command line, or a
-list that can't be read; 3 not all were asked, the archives are no chain, pieces are counted twice,
-or nobody decided about untraced work; 4 the answer can't be written; 5 all were asked, and pieces
+list that can't be read; 3 not complete, for the reasons on standard error; 4 the answer can't be written; 5 all were asked, and pieces
 are doubtful; 9 an unexpected failure.
 """
 from __future__ import annotations
@@ -63,7 +62,7 @@ import pathlib
 from tracedesk_ops import catalogue, chains, files, places, plant
 from tracedesk_ops.firstlook import Line, Question
 from tracedesk_ops.recalls import customers, sets, signing, wording, words
-from tracedesk_ops.recalls.certificate import certificate, programs
+from tracedesk_ops.recalls.certificate import certificate
 from tracedesk_ops.recalls.evidence import LISTED, contents, listing, read_once, write_evidence
 from tracedesk_ops.recalls.recall import Recall
 from tracedesk_ops.recalls.surveyed import Surveyed
@@ -94,9 +93,9 @@ def asked(asks: argparse.Namespace, lines: list[Line], room: pathlib.Path) -> Re
     its = sets.question_of(asks.kind, asks.names, asks.part or "", those)
     if not its.question.names():
         faults = [*those.faults, *its.faults]
-        for text in (*(f"NOT ASKED: {why}" for why in faults), *its.notes):
-            plant.tell(text)
-        words.stop(f"no reel is one of {its.question.name}", 3 if faults else 1)
+        tell(faults, its.notes)
+        begin = "NOT COMPLETE" if faults else "NOT FOUND"
+        words.stop(f"{begin}: no reel is one of {its.question.name}", 3 if faults else 1)
     question = its.question._replace(within=asks.within, as_of=those.as_of)
     its = its._replace(question=question)
     chain = chains.Asker(asks.program, its.question.words(listed_in(room, its.question)))
@@ -131,7 +130,7 @@ def answer(asks: argparse.Namespace, room: pathlib.Path) -> int:
             "some names begin with =, +, - or @: a spreadsheet takes them for formulas unless you"
             " open the CSV files as text"
         )
-    tell(recall)
+    tell(recall.reasons(), recall.notes)
     try:
         write(asks, recall, own or tables, key, sentence)
         shown = asks.show or ("pieces" if asks.kind == "board" else "boards")
@@ -150,23 +149,10 @@ def narrowed(recall: Recall, asks: argparse.Namespace, shipped: Shipped | None) 
     return own
 
 
-def tell(recall: Recall) -> None:
-    """Says what was not asked, or is in doubt, and what a reader has to know."""
-    for name, texts in (
-        ("NOT ASKED", recall.faults),
-        ("NOT A CHAIN", recall.breaks),
-        ("TWICE", recall.doubts),
-    ):
-        for text in texts:
-            plant.tell(f"{name}: {text}")
-    for row in recall.undecided():
-        plant.tell(
-            f"UNTRACED: {row[0]}: {row[4]} of board {row[3] or 'none'} on {row[2]} at {row[1]} was"
-            f" refused, {row[5]} at {row[6]}, and nobody decided about it (id {row[8]}). Reels:"
-            f" {row[9]}"
-        )
-    for note in recall.notes:
-        plant.tell(note)
+def tell(reasons: list[str], notes: list[str]) -> None:
+    """Says why the answer isn't complete, and what a reader has to know."""
+    for text in (*(f"NOT COMPLETE: {it}" for it in reasons), *notes):
+        plant.tell(text)
 
 
 def write(
@@ -179,7 +165,7 @@ def write(
     """Writes the evidence, if it is asked for."""
     if not asks.evidence:
         return
-    told = certificate(recall, tables, programs(asks.program), sentence)
+    told = certificate(recall, tables, sentence)
     if asks.customer:
         customers.hide(told)
     its = contents(told, tables, recall.question)

@@ -8,22 +8,11 @@ import flask
 from werkzeug.exceptions import HTTPException
 
 from tracedesk_ops.recallpage import pages, papers
-from tracedesk_ops.recallpage.jobs import ANSWER, MOST_BYTES, MOST_SHOWN, Asked, Full, Job, Queue
+from tracedesk_ops.recallpage.jobs import ANSWER, HOLDS, MOST_BYTES, MOST_SHOWN, RECALLS
+from tracedesk_ops.recallpage.jobs import Asked, Full, Job, Queue
 from tracedesk_ops.recalls.wording import count
 
 READER = "X-Reader"  # the header in which the proxy names the reader
-RECALL_TEXTS = {
-    "lot": "A lot, or several",
-    "reel": "A reel, or several",
-    "board": "A board: its pieces",
-    "where": "An attribute, as date_code=2614",
-}
-HOLD_TEXTS = {
-    "hold lot": "Hold a lot",
-    "hold reel": "Hold a reel",
-    "release lot": "Release a lot",
-    "release reel": "Release a reel",
-}
 FIELDS = ("kind", "names", "part", "within", "badge", "reason")
 SECONDS_UNTIL_AGAIN = 3
 HEADERS = {
@@ -32,11 +21,6 @@ HEADERS = {
     "X-Content-Type-Options": "nosniff",
     "Referrer-Policy": "same-origin",  # else Origin is null
     "Cache-Control": "no-store",
-}
-FAULTS = {
-    403: "This log-in may not recall.",
-    404: "There is no such page.",
-    413: "The file is too large.",
 }
 
 
@@ -68,8 +52,7 @@ class Site:
             for job, asked in self.queue.questions(newest)
         ]
         asked = {name: values.get(name, "") for name in (*FIELDS, "shipped")}
-        its = {"refused": refused, "asked": asked, "jobs": jobs}
-        its |= {"recalls": RECALL_TEXTS, "holds": HOLD_TEXTS}
+        its = {"refused": refused, "asked": asked, "jobs": jobs, "recalls": RECALLS, "holds": HOLDS}
         return pages.page(pages.FORM, "Recall", its), status
 
     def state_of(self, job: Job) -> str:
@@ -119,9 +102,7 @@ def style() -> flask.Response:
 
 
 def wrong(fault: HTTPException) -> tuple[str, int]:
-    status = fault.code or 500
-    text = FAULTS.get(status, "That can't be done.")
-    return pages.page(pages.WORD, "Recall", {"text": text}), status
+    return pages.page(pages.WORD, "Recall", {"text": fault.description}), fault.code or 500
 
 
 def guard(response: flask.Response) -> flask.Response:

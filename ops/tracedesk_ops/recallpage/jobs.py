@@ -29,8 +29,17 @@ SAID, ANSWER, ENDED = "said.txt", "answer.html", "ended.json"
 LONGEST = 1 << 16  # bytes of a question
 MOST_BYTES = 16 << 20  # of a request of the page, with its list of shipped boards
 MOST_WAITING, MOST_SHOWN = 50, 50
-RECALLS = ("lot", "reel", "board", "where")
-HOLDS = ("hold lot", "hold reel", "release lot", "release reel")
+RECALLS = {  # what can be asked, in words
+    "lot": "A lot, or several",
+    "reel": "A reel, or several",
+    "board": "A board: its pieces",
+    "where": "An attribute, as date_code=2614",
+}
+HOLDS = {
+    f"{verb} {what}": f"{verb.capitalize()} a {what}"
+    for verb in ("hold", "release")
+    for what in ("lot", "reel")
+}
 MOST_REASON = 1_000  # bytes, as docs/line.md has it
 
 

@@ -60,7 +60,6 @@ ANSWER = """
 {% for text in answer.reasons %}<li>{{ text|cell }}</li>{% endfor %}</ul></div>{% endif %}
 <p class="downloads">{% for file, text in downloads.items() %}
 <a href="{{ file }}">{{ text }}</a>{% endfor %}</p>
-{% for text in answer.lacking %}<p class="grey">{{ text }}</p>{% endfor %}
 {% for table in answer.tables %}<h2>{{ table.title }}</h2>
 {% if table.rows %}
 <table><thead><tr>{% for name in table.header %}<th>{{ name }}</th>{% endfor %}</tr></thead><tbody>
@@ -75,7 +74,6 @@ evidence.</p>{% endif %}
 <ul>{% for text in answer.notes %}<li>{{ text|cell }}</li>{% endfor %}</ul>{% endif %}
 {% if answer.limits %}<h2>What no recall can know</h2>
 <ul>{% for text in answer.limits %}<li>{{ text }}</li>{% endfor %}</ul>{% endif %}
-<p class="grey">{{ answer.facts|join(" · ") }}</p>
 """
 FORM = """
 {% if refused %}<p class="refused" id="refused">{{ refused }}</p>{% endif %}

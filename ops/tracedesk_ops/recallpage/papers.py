@@ -88,7 +88,7 @@ def write_sheet(evidence: pathlib.Path, answer: view.ShownAnswer, to: str) -> No
     with xlsxwriter.Workbook(to, PLAIN) as book:
         bold = book.add_format({"bold": True})
         about = book.add_worksheet("Answer")
-        lines = [answer.headline, *answer.reasons, *answer.notes, *answer.facts]
+        lines = [answer.headline, *answer.reasons, *answer.notes]
         for row, text in enumerate(lines):
             about.write_string(row, 0, text)
         for name in TABLES:

@@ -86,9 +86,12 @@ class Worker:
         evidence = job.folder / "evidence"
         if status == STOPPED or not evidence.is_dir():
             said = (job.folder / SAID).read_text(encoding="utf-8", errors="replace")
-            return status, view.without_answer(asked.title, status, said)
+            lines = ["It ended without an answer.", *said.splitlines()]
+            lines += ["It took too long. Ask again, or for less."] * (status == STOPPED)
+            return status, view.failed(f"Recall of {asked.title}", *lines)
         answer = view.answer_of(evidence)
-        return status, dataclasses.replace(answer, lacking=papers.make(evidence, answer))
+        lacking = papers.make(evidence, answer)
+        return status, dataclasses.replace(answer, notes=[*lacking, *answer.notes])
 
     def recalled(self, job: Job, asked: Asked) -> int:
         """The status of tracedesk-recall, or STOPPED."""

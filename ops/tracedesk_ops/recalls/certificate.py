@@ -3,14 +3,12 @@ and what it can't know. It is `certificate.json` in the evidence, which a person
 """
 from __future__ import annotations
 
+import contextlib
 import hashlib
 import json
 import pathlib
-import shutil
-import sqlite3
 import subprocess
-from collections.abc import Iterable
-from typing import Any, NamedTuple
+from typing import Any
 
 from tracedesk_ops import __version__, catalogue, files, plant
 from tracedesk_ops.firstlook import Line
@@ -30,44 +28,21 @@ LIMITS = (
 )
 
 
-class ProgramFile(NamedTuple):
-    """A program that a recall used."""
-
-    name: str
-    version: str
-    sha256: str
-
-
-def program_of(name: str, path: str | None) -> ProgramFile:
-    """The version and checksum of a program; both say so if it is not there."""
-    at = shutil.which(path) if path else None
-    how: dict[str, Any] = {"capture_output": True, "check": True, **plant.TEXT}
-    try:
-        version = subprocess.run([at or name, "--version"], **how).stdout.strip()
-        return ProgramFile(name, version, files.sha256_of(pathlib.Path(at or name)))
-    except (OSError, subprocess.CalledProcessError):
-        return ProgramFile(name, f"no version: {path or name} is not here", "")
-
-
-def checksum_of_tools() -> str:
-    """The checksum of all modules of the plant's tools, in the order of their paths."""
+def programs(chain: str | None) -> dict[str, dict[str, str]]:
+    """The versions and checksums of tracedesk-chain, if it is there, and of all modules of the
+    plant's tools, in the order of their paths.
+    """
     modules = sorted(pathlib.Path(plant.__file__).parent.rglob("*.py"))
-    return hashlib.sha256(b"".join(module.read_bytes() for module in modules)).hexdigest()
+    tools = hashlib.sha256(b"".join(module.read_bytes() for module in modules)).hexdigest()
+    found = {"tracedesk-recall": {"version": __version__, "sha256": tools}}
+    with contextlib.suppress(OSError, subprocess.CalledProcessError):
+        its = pathlib.Path(chain or "")
+        version = subprocess.check_output([its, "--version"], **plant.TEXT).strip()
+        found["tracedesk-chain"] = {"version": version, "sha256": files.sha256_of(its)}
+    return found
 
 
-def programs(program: str) -> list[ProgramFile]:
-    """The programs of a recall by this `tracedesk`."""
-    return [
-        program_of("tracedesk", program),
-        program_of("tracedesk-chain", plant.chain_of(program)),
-        ProgramFile("tracedesk-recall", __version__, checksum_of_tools()),
-        ProgramFile("SQLite", sqlite3.sqlite_version, ""),
-    ]
-
-
-def certificate(
-    recall: Recall, tables: dict[str, Table], used: Iterable[ProgramFile], sentence: str
-) -> dict[str, Any]:
+def certificate(recall: Recall, tables: dict[str, Table], sentence: str) -> dict[str, Any]:
     """The certificate of a recall, as JSON has it."""
     status = recall.status()
     return {
@@ -80,13 +55,10 @@ def certificate(
             "status": status,
             "is_complete": status in (0, 1, 5),
             **{name: len(table) - 1 for name, table in tables.items()},
-            "undecided": len(recall.undecided()),
         },
         "lines": [line_of(recall, line) for line in recall.lines],
-        "programs": [program._asdict() for program in used],
-        "not_asked": recall.faults,
-        "no_chain": recall.breaks,
-        "twice": recall.doubts,
+        "programs": programs(recall.chain.program),
+        "reasons": recall.reasons(),
         "notes": recall.notes,
         "cannot_know": LIMITS,
     }
@@ -96,7 +68,7 @@ def line_of(recall: Recall, line: Line) -> dict[str, Any]:
     """What was asked of a line: the words of tracedesk-chain, whether its files are a chain, and
     which these are. `why` is empty if one was asked.
     """
-    words = recall.chain.words if recall.chain else []
+    words = recall.chain.words
     files = [its for its in recall.asked if its.line == line.name]
     return {
         "line": line.name,

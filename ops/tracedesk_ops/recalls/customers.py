@@ -90,8 +90,7 @@ def hide(told: dict[str, Any]) -> None:
     plant, and boards of others, as where two files differ. It has the checksums of the files alone.
     """
     told["notes"] = []
-    for name in ("not_asked", "no_chain", "twice"):
-        told[name] = told[name] and [SAID_TO_THE_PLANT]
+    told["reasons"] = told["reasons"] and [SAID_TO_THE_PLANT]
     for line in told["lines"]:
         line["folder"] = None
         for archive in line["archives"]:

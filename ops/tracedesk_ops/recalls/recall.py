@@ -1,10 +1,11 @@
 """A recall: a lot, reel or board is asked of all files of lines, and of no running desk."""
 from __future__ import annotations
 
+import collections
 import concurrent.futures
 import os
-import pathlib
 import sqlite3
+from collections.abc import Iterable, Iterator, Sequence
 from typing import Any, NamedTuple
 
 from tracedesk_ops import catalogue, chains, doubts, firstlook, model, plant, sealed, untraced
@@ -14,31 +15,29 @@ from tracedesk_ops.recalls.surveyed import Surveyed
 RUNNING = catalogue.RUNNING
 
 
-class Asked(NamedTuple):
-    """A file of a line, and why it was not asked; empty if it was."""
-
-    line: str
-    file: catalogue.Archive
-    why: str
-
-
-Pieces = list[dict[str, Any]]  # as tracedesk-chain names them
 NO_ANSWER = (chains.NoAnswer, plant.Fault, OSError)
 
 
-class Answered(NamedTuple):
-    """What tracedesk-chain answered about the files of a line: of each its pieces, or why not; why
-    they are no chain; and links that are known by the checksum alone.
-    """
+class Asked(NamedTuple):
+    """A file of a line with its pieces as tracedesk-chain names them, or why there is no answer."""
 
-    files: dict[catalogue.Archive, Pieces | Exception]
-    fault: Exception | None
-    options: list[str]
+    line: str
+    file: catalogue.Archive
+    pieces: list[dict[str, Any]]
+    why: str = ""
+
+
+class Answered(NamedTuple):
+    """The files of a line; why they are no chain; and links that are known by the checksum alone."""
+
+    files: list[Asked]
+    fault: Exception | None = None
+    options: Sequence[str] = ()
 
 
 class Recall:
-    """A question with what all told: `faults` are why some were not asked, `breaks` which archives
-    are no chain, `doubts` what is told twice, `notes` what a reader has to know besides.
+    """A question with what came of it: `faults` are why the answer isn't complete, each with what to
+    do, and `notes` what a reader has to know besides.
     """
 
     def __init__(self, question: Question, those: Surveyed, chain: chains.Asker) -> None:
@@ -50,8 +49,6 @@ class Recall:
         self.reels: list[ReelLeft] = []
         self.asked: list[Asked] = []
         self.faults = [*those.faults]
-        self.breaks: list[str] = []
-        self.doubts: list[str] = []
         self.notes = [*those.notes]
         self.chains: set[str] = set()  # lines whose files are one
         self.untraced: list[list[str]] = []
@@ -70,31 +67,35 @@ class Recall:
             self.look_for_untraced(line)
         self.pieces.sort(key=lambda it: (it.board, it.line, it.designator))
         self.reels.sort(key=lambda it: (it[:-1], -1 if it.minute is None else it.minute))
-        self.doubt()
+        self.faults += twice(self.pieces)
 
     def answered(self, line: Line) -> Answered:
         """What tracedesk-chain answers about the files of a line, from the oldest on. If they are
         no chain, it is asked about each by itself.
         """
-        files = self.files[line.name]
-        paths = [catalogue.path_of(line.folder, it) for it in files]
-        digits = [it.sha256[: model.DIGITS] for it in files]
-        its: dict[catalogue.Archive, Pieces] = {it: [] for it in files}
+        its = [Asked(line.name, file, []) for file in self.files[line.name]]
         try:
-            answer = self.chain.ask(paths, digits) if files else chains.NOTHING
-            for row in answer.rows:
-                its[files[row.pop("file")]].append(row)
-            return Answered({**its}, None, answer.options)
+            answer = self.said_of(line, its) if its else chains.NOTHING
+            return Answered(its, options=answer.options)
         except NO_ANSWER as fault:
-            of_each = map(self.alone, paths, digits)
-            return Answered(dict(zip(files, of_each)), fault, [])
+            return Answered([self.alone(line, it) for it in its], fault)
 
-    def alone(self, path: pathlib.Path, digits: str) -> Pieces | Exception:
-        """What tracedesk-chain answers about one file, or why it doesn't."""
+    def said_of(self, line: Line, those: list[Asked], is_middle: bool = False) -> chains.Answer:
+        """What tracedesk-chain answers about files, each of which gets its pieces."""
+        paths = [catalogue.path_of(line.folder, it.file) for it in those]
+        digits = [it.file.sha256[: model.DIGITS] for it in those]
+        answer = self.chain.ask(paths, digits, is_middle)
+        for row in answer.rows:
+            those[row.pop("file")].pieces.append(row)
+        return answer
+
+    def alone(self, line: Line, its: Asked) -> Asked:
+        """A file that is asked by itself."""
         try:
-            return self.chain.ask([path], [digits], is_middle=True).rows
+            self.said_of(line, [its], is_middle=True)
         except NO_ANSWER as fault:
-            return fault
+            return its._replace(why=str(fault))
+        return its
 
     def take(self, line: Line, answer: Answered) -> None:
         """Takes what was answered about a line's files."""
@@ -107,11 +108,8 @@ class Recall:
             " went on from the one before it"
             for it in answer.options
         ]
-        for file, rows in answer.files.items():
-            if isinstance(rows, Exception):
-                self.asked.append(Asked(line.name, file, str(rows)))
-                continue
-            self.asked.append(Asked(line.name, file, ""))
+        self.asked += answer.files
+        for _, file, rows, _ in answer.files:
             for row in rows:
                 row |= {"minute": int(row["minute"]), "line": line.name, "file": file.file}
                 self.pieces.append(Piece(**row))
@@ -120,7 +118,7 @@ class Recall:
             except sqlite3.Error as fault:
                 self.faults.append(f"{line.name}: {file.file}: {fault}")
         if answer.files:
-            self.left_over(line, list(answer.files)[-1])
+            self.left_over(line, answer.files[-1].file)
 
     def left_over(self, line: Line, newest: catalogue.Archive) -> None:
         """Takes what is left of the lot or reel by the newest file."""
@@ -133,19 +131,13 @@ class Recall:
 
     def refused(self, line: Line, fault: Exception) -> None:
         """Takes why there is no answer about a line's chain."""
-        status = getattr(fault, "status", None)
-        if status == chains.NO_CHAIN:
-            self.breaks.append(
-                f"{line.name}: {fault}: {line.folder} lacks an archive, or has another one in its"
-                " place. Take it from a mirror"
+        text = f"{line.name}: tracedesk-chain gives no answer: {fault}"
+        if getattr(fault, "status", None) in (chains.NO_CHAIN, chains.BEGUN):
+            text = (
+                f"{line.name}: its files are no chain: {fault}. {line.folder} lacks a file, or has"
+                " another one in its place: take it from a mirror"
             )
-        elif status == chains.BEGUN:
-            self.faults.append(
-                f"{line.name}: {fault}, and {line.folder} doesn't have that archive: take it from a"
-                " mirror"
-            )
-        else:
-            self.faults.append(f"{line.name}: tracedesk-chain gives no answer: {fault}")
+        self.faults.append(text)
 
     def look_for_untraced(self, line: Line) -> None:
         """What is around a line's files: work that a desk refused, what was decided about it, and
@@ -163,46 +155,33 @@ class Recall:
     def undecided(self) -> list[list[str]]:
         return [row for row in self.untraced if not row[-2]]
 
-    def doubt(self) -> None:
-        """No desk places a piece twice: where a line has a board and a designator twice, two of its
-        files overlap, or a board's name came again.
-        """
-        twice = [
-            (it, other)
-            for it, other in zip(self.pieces, self.pieces[1:])
-            if (it.board, it.line, it.designator) == (other.board, other.line, other.designator)
+    def reasons(self) -> list[str]:
+        """Why the answer isn't complete, and what to do."""
+        undecided = collections.Counter(row[0] for row in self.undecided())
+        return self.faults + [
+            f"{line}: nobody decided about {number} reports of work that its desk refused: decide"
+            " about each in the table untraced"
+            for line, number in undecided.items()
         ]
-        for it, other in twice[:1]:
-            self.doubts.append(
-                f"{it.line}: {len(twice)} pieces are there twice, as {it.designator} of"
-                f" {it.board} in {it.file} and in {other.file}: these files have the same commands,"
-                " or a board's name came again"
-            )
-        places: dict[str, list[str]] = {}
-        for row in self.asked:
-            places.setdefault(row.file.sha256, []).append(f"{row.line} {row.file.file}")
-        self.doubts += [
-            f"{' and '.join(those)} have the same checksum: it is one file, on two lines"
-            for those in places.values()
-            if len(those) > 1
-        ]
-        lines: dict[tuple[str, str, str], set[str]] = {}
-        for piece in self.pieces:
-            if piece.file == RUNNING:
-                lines.setdefault((piece.board, piece.designator, piece.reel), set()).add(piece.line)
-        if both := next((sorted(those) for those in lines.values() if len(those) > 1), None):
-            self.doubts.append(
-                f"the running desks of {' and '.join(both)} have the same pieces: one of them is a"
-                " copy"
-            )
 
     def status(self) -> int:
-        return (
-            3
-            if self.faults or self.breaks or self.doubts or self.undecided()
-            else 5
-            if self.doubtful
-            else 0
-            if self.known
-            else 1
-        )
+        if self.reasons():
+            return 3
+        return 5 if self.doubtful else 0 if self.known else 1
+
+
+def twice(pieces: Iterable[Piece]) -> Iterator[str]:
+    """What is wrong if a place of a board is there twice on a line, or off one reel on any: no desk
+    places it again.
+    """
+    first: dict[tuple[str, ...], Piece] = {}
+    for it in pieces:
+        for of in (("line", it.line), ("reel", it.reel)):
+            other = first.setdefault((it.board, it.designator, *of), it)
+            if other is not it:
+                yield (
+                    f"{it.designator} of board {it.board} is placed twice, by {other.file} of"
+                    f" {other.line} and by {it.file} of {it.line}: they are copies, or a board's"
+                    " name came again. Have them looked at"
+                )
+                return
