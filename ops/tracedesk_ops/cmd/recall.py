@@ -28,11 +28,11 @@ that changed lines is followed under its other names. ATTRIBUTE is reel, part, l
 supplier, maker_part or order, as the reel's receipt says it. If it is named twice, a reel has one
 of the values. A reel whose receipt doesn't say it may be one of them: then the status is 3.
 
---line          a line's name, and its folder. Of a line on another computer name a mirror of it:
-                its newest sealed file stands for the desk
+--line          a line's name, and its folder, or a mirror of it: there the newest sealed file stands
+                for the desk
 --as-of TIME    the answer is complete for what was reported before, if each mirror goes on to it;
-                without this option none over a mirror is complete. With `mirrors` it is the time to
-                which all of them go, but for those of two days ago
+                without this option none over a mirror is complete. `mirrors` is the end of the oldest
+                mirror, of those of the last two days
 --within PIECES  a label may be wrong by so many pieces: those so near a splice that they may be of
                 the neighbour are doubtful, from the second splice of a tape on the more
 --show TABLE    the table to print as CSV; without it pieces of a board, and boards of a lot or reel
