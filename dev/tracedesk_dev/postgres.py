@@ -47,7 +47,6 @@ class Server:
         self.options = {"listen_addresses": "''", "unix_socket_directories": f"'{folder}'"}
         self.options |= {"fsync": "off", **options}
         names = {"PGHOST": str(folder), "PGDATABASE": "postgres", "PGUSER": "plant"}
-        names["TRACEDESK_SEEN"] = str(folder / "seen")
         os.environ.update(names, PGCLIENTENCODING="UTF8")
 
     def run(self, name: str, *words: str) -> None:

@@ -28,9 +28,9 @@ CREATE SERVER :"dbname" FOREIGN DATA WRAPPER postgres_fdw OPTIONS (
     connect_timeout '10', tcp_user_timeout '30000', options :'limit');
 CREATE USER MAPPING FOR PUBLIC SERVER :"dbname" OPTIONS (user :'user', password :'password');
 CREATE SCHEMA :"own";
-IMPORT FOREIGN SCHEMA plant LIMIT TO (piece, known, saying, newest)
+IMPORT FOREIGN SCHEMA plant LIMIT TO (piece, known, saying)
     FROM SERVER :"dbname" INTO :"own";
-SELECT count(*) < 4 AS is_older FROM pg_class
+SELECT count(*) < 3 AS is_older FROM pg_class
     WHERE relnamespace = :'own'::regnamespace AND relkind = 'f' \gset
 \if :is_older
     DO $$ BEGIN

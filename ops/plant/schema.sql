@@ -83,14 +83,12 @@ CREATE OR REPLACE VIEW piece AS
 CREATE OR REPLACE VIEW known AS
     SELECT current_database()::text AS plant, line, reel, part, lot
     FROM reel JOIN file ON file.id = reel.file;
--- the lines, and when the newest file of each was sealed
-CREATE OR REPLACE VIEW newest AS
-    SELECT DISTINCT ON (line.name) current_database()::text AS plant, line.name AS line, oldest,
-           refused, sealed
-    FROM line LEFT JOIN file ON file.line = line.name ORDER BY line.name, place DESC;
 -- by a note the answer stays exact
 CREATE OR REPLACE VIEW saying AS
-    WITH said (line, said, is_note) AS (
+    WITH newest AS (  -- of each line the newest file, and when it was sealed
+        SELECT DISTINCT ON (line.name) line.name AS line, oldest, refused, sealed
+        FROM line LEFT JOIN file ON file.line = line.name ORDER BY line.name, place DESC
+    ), said (line, said, is_note) AS (
         SELECT '', 'the table line is empty, so nothing says which lines an answer needs', false
             WHERE NOT EXISTS (SELECT FROM line)
         UNION ALL SELECT line, format('%s was not loaded: %s', line, refused), false

@@ -128,26 +128,6 @@ def test_lines_of_the_set_up_are_loaded_and_one_without_a_file_is_named(
     assert "L8 was not loaded: " in database.query("pieces", 3, lot=lot).said
 
 
-def test_a_database_that_is_put_back_is_named(
-    line: WorkedLine, server: postgres.Server, database: Database
-) -> None:
-    """To who has asked a newer state; the next load mends it."""
-    database.load(line.kept()[0])
-    ((lot,),) = database.rows(MANY)
-    assert "as of L1 2026-03-01" in database.query("recall", lot=lot).said
-    dump = databases.create(server, "dump", schema="", more=f"TEMPLATE {database.name}")
-    database.load(line.kept()[-1])
-    newer = database.query("recall", lot=lot)
-    of_all = Database(server, "postgres")
-    of_all.psql("-c", f"DROP DATABASE {database.name}")
-    of_all.psql("-c", f"ALTER DATABASE {dump.name} RENAME TO {database.name}")
-    for query in ("recall", "pieces", "recall"):
-        said = database.query(query, 3, lot=lot).said
-        assert "L1 was as of 2026-03-03T06:00:00Z at your last question" in said
-    database.load(line.kept()[-1])
-    assert database.query("recall", lot=lot) == newer
-
-
 def test_a_load_amid_a_recall_changes_nothing_of_its_answer(
     line: WorkedLine, database: Database, folder: pathlib.Path
 ) -> None:

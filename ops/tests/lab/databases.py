@@ -59,11 +59,6 @@ class Database:
     name: str
 
     @property
-    def seen(self) -> pathlib.Path:
-        """What a reader's last answers were as of."""
-        return self.server.folder / f"seen-{self.name}"
-
-    @property
     def environment(self) -> dict[str, str]:
         """By which psql and the tools find it."""
         return {
@@ -71,7 +66,6 @@ class Database:
             "PGDATABASE": self.name,
             "PGUSER": "plant",
             "PGCLIENTENCODING": "UTF8",
-            "TRACEDESK_SEEN": str(self.seen),
             "PLANT_PASSWORD": PASSWORD,
             "ROLE_PASSWORD": PASSWORD,
         }
@@ -123,7 +117,6 @@ def create(server: postgres.Server, name: str, schema: str = "schema", more: str
     """A new database, with the tables of the plant or none."""
     Database(server, "postgres").psql("-c", f"CREATE DATABASE {name} {more}")
     made = Database(server, name)
-    made.seen.unlink(missing_ok=True)
     if schema:  # files of tests are of other days
         made.psql("-f", SQL / f"{schema}.sql")
         made.change("ALTER TABLE line ALTER oldest SET DEFAULT '100 years'")
