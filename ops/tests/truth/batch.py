@@ -40,6 +40,9 @@ def wrong(run: Run, answer_of: Callable[[str], Any]) -> Iterator[str]:
         if not run.names_reels:  # else each piece has two witnesses
             named |= {board for board, _ in listed}
         in_doubt = {(row[1], row[2]) for row in told.doubtful}
+        its_boards = {board for board, _ in truth}
+        run.of_lots += len(its_boards)
+        run.besides += len({board for board, _ in in_doubt} - its_boards)
         status = told.status()
         if (undecided and status != 3) or (in_doubt and status not in (3, 5)):
             yield f"{lot}: status {status} with boards {undecided} and doubtful {in_doubt}"
@@ -214,6 +217,8 @@ class Batch:
         self.counts["boards"] += run.boards
         self.counts["pieces"] += len(run.truth)
         self.counts["traced pieces"] += run.traced
+        self.counts["boards of lots"] += run.of_lots
+        self.counts["boards named besides"] += run.besides
         self.counts["messages"] += run.numbers
         self.counts["unscanned swaps"] += run.swaps
 

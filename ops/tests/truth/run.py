@@ -21,7 +21,7 @@ class Run:
 
     def __init__(self, name: str, place: Place, desk: desks.Desk, seed: str, planted: bool) -> None:
         self.name, self.planted, self.random = name, planted, random.Random(seed)
-        self.numbers = self.boards = self.traced = 0
+        self.numbers = self.boards = self.traced = self.of_lots = self.besides = 0
         self.reels: dict[str, list[Any]] = {}  # of each its lot, and the pieces that are left
         self.truth: list[tuple[str, str, str]] = []  # board, designator, reel
         # The reels on each slot, the one in front first.
