@@ -90,21 +90,17 @@ def listed_in(room: pathlib.Path, question: Question) -> pathlib.Path:
 def asked(asks: argparse.Namespace, lines: list[Line], room: pathlib.Path) -> Recall:
     """The recall of all lines."""
     those = Surveyed(lines, room, asks.as_of)
-    its = sets.question_of(asks.kind, asks.names, asks.part or "", those)
-    if not its.question.names():
-        faults = [*those.faults, *its.faults]
-        tell(faults, its.notes)
-        begin = "NOT COMPLETE" if faults else "NOT FOUND"
-        words.stop(f"{begin}: no reel is one of {its.question.name}", 3 if faults else 1)
-    question = its.question._replace(within=asks.within, as_of=those.as_of)
-    its = its._replace(question=question)
-    chain = chains.Asker(asks.program, its.question.words(listed_in(room, its.question)))
-    recall = Recall(its.question, those, chain)
-    recall.faults += its.faults
-    recall.notes += its.notes
+    question, faults, notes = sets.question_of(asks.kind, asks.names, asks.part or "", those)
+    those.faults += faults
+    those.notes += notes
+    if not question.names():
+        tell(those.faults, those.notes)
+        begin = "NOT COMPLETE" if those.faults else "NOT FOUND"
+        words.stop(f"{begin}: no reel is one of {question.name}", 3 if those.faults else 1)
+    question = question._replace(within=asks.within, as_of=those.as_of)
+    chain = chains.Asker(asks.program, question.words(listed_in(room, question)))
+    recall = Recall(question, those, chain)
     recall.ask()
-    if its.known:
-        recall.faults += its.known.away(its.question.names())
     return recall
 
 

@@ -15,16 +15,14 @@ from tracedesk_ops.recallpage.view import ShownAnswer
 ROUTES = {"hold": ("/line/holds", "Held"), "release": ("/line/releases", "Released")}
 SECONDS = 60.0  # for which a desk's answer is waited for
 ELSEWHERE = "its desk is on another computer: say it on the page there too"
-NO_BOOK = "its server keeps no book: tracedesk-line serve does, and IT switches it on"
 
 
-def posted(line: Places, route: str, told: dict[str, str]) -> tuple[int, bytes]:
-    """The status and the body of a desk's answer."""
+def posted(line: Places, route: str, told: dict[str, str]) -> bytes:
+    """A desk's answer."""
     link = http.client.HTTPConnection("127.0.0.1", line.port, timeout=SECONDS)
     with contextlib.closing(link):
         link.request("POST", route, json.dumps(told))
-        answer = link.getresponse()
-        return answer.status, answer.read()
+        return link.getresponse().read()
 
 
 def said_to(line: Places, asked: Asked, name: str) -> str:
@@ -34,11 +32,10 @@ def said_to(line: Places, asked: Asked, name: str) -> str:
     by = f"{asked.badge}, by the log-in {asked.reader}"
     told = {verb.capitalize(): what, "Name": name, "By": by, "Reason": asked.reason}
     try:
-        status, body = posted(line, route, told)
-        if status == 404:
-            return NO_BOOK
-        answer = json.loads(body)
-        return "" if answer["Answer"] == done else f"its desk answers {body.decode():.200}"
+        body = posted(line, route, told)
+        return (
+            "" if json.loads(body)["Answer"] == done else f"its desk answers {body.decode():.200}"
+        )
     except (OSError, ValueError, LookupError, TypeError, http.client.HTTPException) as fault:
         return f"its desk can't be asked: {fault}"
 

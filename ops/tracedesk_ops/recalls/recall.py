@@ -13,8 +13,6 @@ from tracedesk_ops.firstlook import Line, Piece, Question, ReelLeft
 from tracedesk_ops.recalls.surveyed import Surveyed
 
 RUNNING = catalogue.RUNNING
-
-
 NO_ANSWER = (chains.NoAnswer, plant.Fault, OSError)
 
 

@@ -157,13 +157,12 @@ class Known:
 
 class Meant(NamedTuple):
     """The question that some words ask, why its set of reels may not be whole, and what a reader
-    has to know. `known` is what the lines know of reels, as far as the question wants it.
+    has to know.
     """
 
     question: Question
     faults: list[str]
     notes: list[str]
-    known: Known | None = None
 
 
 def title(kind: str, names: Sequence[str], part: str) -> str:
@@ -182,7 +181,7 @@ def question_of(kind: str, names: Sequence[str], part: str, those: Surveyed) -> 
         notes = [f"followed under other names too: {', '.join(more)}"] if more else []
         its = Question("reels", title(kind, reels, ""), "", tuple(reels))
         its = its if len(reels) > 1 else Question(kind, names[0])
-        return Meant(its, known.faults, notes, known)
+        return Meant(its, [*known.faults, *known.away(reels)], notes)
     if kind == "lot":
         cards = [card for those in known.cards.values() for card in those]
         of_lots = {its.reel for its in cards if its.lot in names and part in ("", its.part)}
@@ -212,5 +211,5 @@ def where(terms: Terms, known: Known) -> Meant:
         )
     taken = sorted(reel for reel, its in those.items() if any(map(terms.take, its)))
     reels = known.followed(taken)
-    faults += known.twice(taken)
-    return Meant(Question("reels", str(terms), "", tuple(reels)), faults, [], known)
+    faults += [*known.twice(taken), *known.away(reels)]
+    return Meant(Question("reels", str(terms), "", tuple(reels)), faults, [])

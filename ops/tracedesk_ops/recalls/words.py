@@ -101,7 +101,7 @@ def lines_of(words: argparse.Namespace) -> list[Line]:
 
 def line_of(name: str, path: str) -> Line:
     """A line by its words."""
-    if not name or path in ("", "-"):
+    if not name or not path:
         stop(f"the line {name} has no name, or no folder: name that of its desk")
     at = pathlib.Path(os.path.abspath(path))  # a link stays one, as in each tool
     if at.exists() and not at.is_dir():
