@@ -6,7 +6,6 @@ rendered. Where root calls it, they are installed, run a day (debian/tests/day) 
 root laid over this one, which goes away. `make plant-test` installs them, and takes them away.
 """
 import concurrent.futures
-import json
 import os
 import pathlib
 import re
@@ -253,19 +252,3 @@ def test_lintian_finds_nothing(packages: Packages) -> None:
     done = run(*words, *packages.packages)
     said = [it for it in done.stdout.splitlines() if not it.startswith("N:")]
     assert (done.returncode, said) == (0, [])
-
-
-def test_the_container_stops_without_a_desk(packages: Packages) -> None:
-    """The container runs the program with the unit's words, and stops where the desk's file is
-    missing, as the unit does.
-    """
-    text = (ROOT / "packaging/Containerfile").read_text(encoding="utf-8")
-    words = json.loads(re.findall(r"^CMD (\[.*\])$", text, re.M)[0])
-    unit = re.findall(
-        r"^ExecStart=/usr/bin/(.*)$",
-        (packages.deb / "lib/systemd/system/tracedesk.service").read_text(),
-        re.M,
-    )[0]
-    assert words[-1].endswith(f"exec {unit}")
-    done = run("sh", "-c", words[-1].replace("/var/lib/tracedesk", str(packages.room)))
-    assert done.returncode == 2 and "there is no desk" in done.stdout
