@@ -80,7 +80,7 @@ def test_a_desk_that_is_missing_is_not_begun_anew(machine: Machine) -> None:
 @pytest.mark.parametrize(
     ("words", "said"),
     [
-        ("ss -ltnp 'sport = :8080'", '"tracedesk"'),
+        ("ss -ltnp 'sport = :8080'", '"tracedesk-line"'),
         ("nginx -t 2>&1", "successful"),
         ("findmnt --target /var/lib/tracedesk", "/"),
         (

@@ -93,7 +93,7 @@ def test_the_watch_sees_a_desk_that_is_well(machine: Machine) -> None:
     restarts, size = machine.shell(show).split()
     its = "tracedesk_watch_source_up"
     sources = [value for name, value in found.items() if name.startswith(its)]
-    assert sources == ["1"] * 6
+    assert sources == ["1"] * 7
     assert (found["tracedesk_up"], health(machine)) == ("1", "200")
     assert found["tracedesk_service_restarts_total"] == restarts
     assert found["tracedesk_file_bytes"] == size

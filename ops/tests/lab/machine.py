@@ -66,9 +66,9 @@ exec env -i container=plant PATH=/usr/sbin:/usr/bin:/sbin:/bin /lib/systemd/syst
 """
 JOIN = 'echo 0 > {}/cgroup.procs; exec unshare -m -p -n -u -i -C --fork sh -c "$1" boot "$2" "$3"'
 SHELL = ("bash", "-euo", "pipefail", "-c")
-SHAPE = re.compile(
-    r"(?P<notes>(?:<!-- [^\n]* -->\n+)*)```sh\n(?P<script>.*?)```\n"
-    r"(?:\n```text\n(?P<prints>.*?)```\n)?",
+SHAPE = re.compile(  # also within a list
+    r"(?P<notes>(?:<!-- [^\n]* -->\n+ *)*)```sh\n(?P<script>.*?) *```\n"
+    r"(?:\n *```text\n(?P<prints>.*?) *```\n)?",
     re.DOTALL,
 )
 STARTS = re.compile(r"systemctl (enable --now|start|restart|kill\b.*) tracedesk$", re.MULTILINE)
