@@ -8,7 +8,6 @@ import pathlib
 import shutil
 import signal
 import sqlite3
-import subprocess
 import sys
 from collections.abc import Callable, Iterator
 
@@ -17,7 +16,6 @@ import pytest
 from lab import ROOT, files
 from lab.desk import Desk
 from lab.messages import FIRST_LINE, part
-from lab.waits import PATIENCE
 from tracedesk_ops import chains, cli, lineage, plant, sealed
 from tracedesk_ops.line import LineFolder
 
@@ -295,27 +293,3 @@ def test_a_desk_that_has_accepted_nothing_and_one_that_goes_on_as_it_was(
         assert len(called.files()) == 1
     finally:
         desk.end()
-
-
-IN_A_FINALIZER = """
-import os, signal, time
-from tracedesk_ops import plant
-class Told:
-    def __del__(self):
-        os.kill(os.getpid(), signal.SIGTERM)
-        time.sleep(0.05)
-plant.ends_by_exception()
-try:
-    told = Told()
-    del told
-    time.sleep(60)
-except plant.Fault as fault:
-    print(fault)
-"""
-
-
-def test_a_signal_that_comes_in_a_finalizer_ends_the_tool_too() -> None:
-    """Python drops what is raised there, as in a fork."""
-    words = [sys.executable, "-c", IN_A_FINALIZER]
-    done = subprocess.run(words, capture_output=True, text=True, cwd=ROOT / "ops", timeout=PATIENCE)
-    assert (done.stdout, done.stderr) == ("it was stopped by SIGTERM\n", "")

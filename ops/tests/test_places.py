@@ -31,13 +31,11 @@ def test_a_line_alone_has_the_places_of_the_package(set_up: SetUp) -> None:
     (its,) = places.lines()
     home = pathlib.Path("/var/lib/tracedesk")
     assert its.db == home / "desk" and its.url == "http://127.0.0.1:8080"
-    assert its.archive == home / "sealed"
 
 
 def test_all_places_are_next_to_the_desk(set_up: SetUp) -> None:
     set_up("L2", line="L2", db="/srv/l2/desk", port=8090)
     (its,) = places.lines()
-    assert its.archive == pathlib.Path("/srv/l2/sealed")
     assert its.url == "http://127.0.0.1:8090"
 
 
@@ -50,7 +48,7 @@ def test_a_line_that_is_a_folder_has_its_places_there(
         set_up(name, line=name, port=port)
     for its in places.lines():
         folder = tmp_path / "home" / its.line
-        assert (its.db, its.archive) == (folder / "desk", folder / "sealed")
+        assert its.db == folder / "desk"
 
 
 def test_a_line_that_this_user_may_not_look_into_stops_no_other(

@@ -6,7 +6,6 @@ from __future__ import annotations
 
 import contextlib
 import errno
-import fcntl
 import glob
 import hashlib
 import os
@@ -15,7 +14,6 @@ import secrets
 import stat
 import tempfile
 import time
-from collections.abc import Iterator
 from typing import BinaryIO
 
 CHUNK = 1 << 20
@@ -71,17 +69,6 @@ def keep(path: pathlib.Path) -> None:
     number = os.open(path, os.O_RDONLY)
     try:
         os.fsync(number)
-    finally:
-        os.close(number)
-
-
-@contextlib.contextmanager
-def held(folder: pathlib.Path) -> Iterator[None]:
-    """Holds a folder, for one change in it at a time."""
-    number = os.open(folder, os.O_RDONLY | os.O_DIRECTORY)
-    try:
-        fcntl.flock(number, fcntl.LOCK_EX)
-        yield
     finally:
         os.close(number)
 

@@ -48,7 +48,7 @@ def set_ups() -> list[dict[str, str]]:
 def set_up(reader: argparse.ArgumentParser) -> None:
     """Takes the words of a tool from the line that --line says, by its name or its folder, else
     from the one that is set up on this machine; what the command line says itself counts. Also
-    without a set-up file there are `db` and `archive`, the desk and the sealed files.
+    without a set-up file there is `db`, the desk.
     """
     reader.add_argument(
         "--line", metavar="LINE", help="the line's name or folder, where several are set up"
@@ -74,8 +74,7 @@ def set_up(reader: argparse.ArgumentParser) -> None:
         reader.error(f"there is no {SET_UP}/{name}.conf: write it, or say --line FOLDER")
     words: dict[str, object] = dict(own[0]) if own else {}
     db = pathlib.Path(str(words.get("db", places.DESK)))
-    words["db"], words["archive"] = db, db.with_name(model.SEALED)
-    reader.set_defaults(**words)
+    reader.set_defaults(**{**words, "db": db})
 
 
 def offer_service(reader: argparse.ArgumentParser) -> None:

@@ -18,8 +18,6 @@ import functools
 import os
 import pathlib
 
-from tracedesk_ops import model
-
 Path = pathlib.Path
 
 FOLDER = Path(os.environ.get("TRACEDESK_SET_UP", "/etc/tracedesk"))
@@ -47,17 +45,12 @@ class Places:
     key: str = ""  # the private key of ssh-keygen by which the evidence of a recall is signed
 
     @property
-    def archive(self) -> Path:
-        """The sealed files, and the books."""
-        return self.db.with_name(model.SEALED)
-
-    @property
     def url(self) -> str:
         return f"http://127.0.0.1:{self.port}"
 
     def words(self) -> dict[str, str]:
         """The words of the set-up file, and what follows from them."""
-        names = [*(its.name for its in dataclasses.fields(self)), "url", "archive"]
+        names = [*(its.name for its in dataclasses.fields(self)), "url"]
         words = {name: str(getattr(self, name)) for name in names}
         return {name: value for name, value in words.items() if value}
 
@@ -177,8 +170,3 @@ def is_word(name: str, value: str) -> bool:
 def is_in_a_folder(db: Path) -> bool:
     """Whether a desk has a folder that can be its line's."""
     return db.name == DESK.name and db.parent.name != ""
-
-
-def all_of(archive: Path) -> list[Places]:
-    """The places of the lines that are set up with this archive."""
-    return [it for it in lines() if os.path.realpath(it.archive) == os.path.realpath(archive)]

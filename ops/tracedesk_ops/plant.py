@@ -4,7 +4,6 @@ from __future__ import annotations
 import contextlib
 import ctypes
 import fcntl
-import functools
 import io
 import os
 import pathlib
@@ -125,22 +124,8 @@ def ends_by_exception() -> None:
             )  # what is ignored, the service that is started would ignore too
         raise BySignal(f"it was stopped by {signal.Signals(number).name}")
 
-    def again(dropped: sys.UnraisableHookArgs) -> None:
-        """Python drops what is raised within a fork or a finalizer: it is raised once more."""
-        fault = dropped.exc_value
-        if not isinstance(fault, BySignal):
-            sys.__unraisablehook__(dropped)
-            return
-        signal.signal(signal.SIGALRM, functools.partial(raised, fault))
-        signal.setitimer(signal.ITIMER_REAL, 0.01)
-
-    sys.unraisablehook = again
     for number in numbers:
         signal.signal(number, end)
-
-
-def raised(fault: Fault, *_: object) -> None:
-    raise fault
 
 
 @contextlib.contextmanager

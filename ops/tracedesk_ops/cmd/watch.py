@@ -343,9 +343,7 @@ def main() -> int:
         sys.stdout.write(text)
         return 0
     try:
-        path = pathlib.Path(asked.to).absolute()
-        with files.held(path.parent):  # one watch at a time
-            files.put(path, text, 0o644)
+        files.put(pathlib.Path(asked.to).absolute(), text, 0o644)
         return 0
     except OSError as fault:
         plant.tell(
