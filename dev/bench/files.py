@@ -8,7 +8,8 @@ examples:
   dev/bench/run files --pieces 5000 --turns 1        a first look
 
 The line's folder is in FOLDER, or in the folder for temporary files. Its desk has the pieces of
-dev/bench/run starts. One sender posts a message each 20 ms, and the same one again until it is
+dev/bench/run starts, and is served by the tracedesk-line next to the program, or that of LINE. A
+refused load is in its book. One sender posts a message each 20 ms, and the same one again until it is
 Accepted; it waits while the proxy would have it wait. A turn is a seal, a roll-over, and a restore
 of the file from which the new desk was begun, for which the desk is stopped, and started again. The
 table has the medians of the turns by the clock, and the longest time until a message was Accepted.
@@ -30,6 +31,7 @@ from collections.abc import Iterator, Sequence
 from bench import starts
 from tracedesk_dev import program
 from tracedesk_dev.ports import lent
+from tracedesk_ops import plant
 
 PAUSE = 0.02  # seconds between messages
 STAMP = "2026-01-05T00:00:00Z"
@@ -57,15 +59,17 @@ class Sender(threading.Thread):
 
     def is_accepted(self, uid: str) -> bool:
         """Whether the desk takes a message, which says nothing but the time."""
-        if self.drained.exists():
-            return False
-        text = {"MessageName": "TraceDesk.ClockSet", "UniqueID": uid, "Source": "sender"}
-        body = json.dumps({**text, "TimeStamp": STAMP, "MessageBody": {}})
+        return not self.drained.exists() and b'"Accepted"' in self.answer(uid, "ClockSet")
+
+    def answer(self, uid: str, word: str, **body_: str) -> bytes:
+        """The desk's answer, empty while it is away."""
+        text = {"MessageName": f"TraceDesk.{word}", "UniqueID": uid, "Source": "sender"}
+        body = json.dumps({**text, "TimeStamp": STAMP, "MessageBody": body_})
         with contextlib.closing(http.client.HTTPConnection("127.0.0.1", self.port)) as link:
             with contextlib.suppress(OSError, http.client.HTTPException):
                 link.request("POST", "/messages", body, {"Connection": "close"})
-                return b'"Accepted"' in link.getresponse().read()
-        return False
+                return link.getresponse().read()
+        return b""
 
 
 class Line:
@@ -75,7 +79,10 @@ class Line:
         self.folder, self.tracedesk, self.port = folder, tracedesk, port
         self.desk, self.drained = folder / "desk", folder.with_name("drained")
         self.pid, self.serve = folder.with_name("pid"), folder.with_name("serve")
-        words = f"'{tracedesk}' serve --db '{self.desk}' --port {port} --connections 1000000"
+        serves = plant.next_to(tracedesk, "line")
+        if serves is None:
+            program.stop("there is no tracedesk-line next to it: dev/build --line, or LINE=FILE")
+        words = f"'{serves}' serve --db '{self.desk}' --port {port}"
         self.serve.write_text(f"{words} > /dev/null & echo $! > '{self.pid}'\n")
 
     def service(self) -> list[object]:
@@ -115,6 +122,7 @@ def sending(line: Line) -> Iterator[Sender]:
     sender.start()
     while not sender.waits:
         time.sleep(PAUSE)
+    sender.answer("refused", "MaterialsLoaded", Machine="LINE1-M1", Slot="1", Reel="none")
     sender.waits.clear()
     try:
         yield sender
