@@ -74,7 +74,8 @@ def set_up(reader: argparse.ArgumentParser) -> None:
         reader.error(f"there is no {SET_UP}/{name}.conf: write it, or say --line FOLDER")
     words: dict[str, object] = dict(own[0]) if own else {}
     db = pathlib.Path(str(words.get("db", places.DESK)))
-    reader.set_defaults(**{**words, "db": db})
+    words["db"] = db
+    reader.set_defaults(**words)
 
 
 def offer_service(reader: argparse.ArgumentParser) -> None:

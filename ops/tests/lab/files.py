@@ -8,8 +8,6 @@ import pathlib
 import sqlite3
 from collections.abc import Iterable, Iterator
 
-from tracedesk_ops import model
-
 # docs/definitions.md, "The tables of a desk's file"
 TABLES = """
 CREATE TABLE version (one INTEGER NOT NULL PRIMARY KEY, number INTEGER NOT NULL, greatest INTEGER NOT NULL) STRICT;
@@ -56,10 +54,8 @@ def desk(path: pathlib.Path, uids: Iterable[str] = (), mark: str = "") -> pathli
 
 
 def accept(path: pathlib.Path, uids: Iterable[str]) -> None:
-    """The desk accepts them: heads of its own by their names, and parts for the others."""
+    """The desk accepts parts with these UniqueIDs."""
     with opened(path) as database:
         for uid in uids:
             last = database.execute("SELECT coalesce(max(number), 0) FROM accepted").fetchone()[0]
-            is_head = uid.partition("-")[0] in model.BOOKS
-            said = (model.SOURCE, "ClockSet") if is_head else ("S", f"PartDefined\t{uid}")
-            database.execute(INSERT, [last + 1, uid, said[0], last + 1, said[1]])
+            database.execute(INSERT, [last + 1, uid, "S", last + 1, f"PartDefined\t{uid}"])
