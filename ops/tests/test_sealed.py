@@ -13,7 +13,7 @@ import pytest
 
 from lab import files
 from lab.folders import audit, killed_at_each_call, line_of, rolled_over, seal, with_log
-from tracedesk_ops import change, copies, lineage, plant, sealed, sealing
+from tracedesk_ops import around, change, copies, doubts, lineage, plant, sealed, sealing
 from tracedesk_ops.line import LineFolder
 
 Path = pathlib.Path
@@ -264,6 +264,10 @@ def test_six_hundred_files_want_few_descriptors(folder: Path) -> None:
     try:
         found = lineage.of(line)
         lacked = lineage.lacking(found.chain, found.files)
+        line.desk.unlink()
+        asked = around.survey(line, "L1")
+        known = doubts.look(line.path, asked.archives)
     finally:
         resource.setrlimit(resource.RLIMIT_NOFILE, was)
     assert len(found.chain) == FILES and not found.faults and not lacked
+    assert len(asked.archives) == FILES - 1 and not asked.faults and not known.faults

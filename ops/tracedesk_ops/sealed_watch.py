@@ -13,8 +13,8 @@ Path = pathlib.Path
 Samples = Iterator[tuple[str, float, dict[str, str]]]
 
 FUTURE = 300  # seconds that a clock may have been set back
-PIECES = "SELECT coalesce(sum(placed), 0) FROM reel"
-LAST_UID = "SELECT uid FROM accepted ORDER BY number DESC LIMIT 1"
+OF_IT = """SELECT (SELECT uid FROM accepted ORDER BY number DESC LIMIT 1),
+    (SELECT max(number) FROM accepted), (SELECT coalesce(sum(placed), 0) FROM reel)"""
 
 
 def newest(folder: Path, has: Callable[[str], bool]) -> Samples:
@@ -27,26 +27,13 @@ def newest(folder: Path, has: Callable[[str], bool]) -> Samples:
     path = max(paths, key=times.__getitem__)
     if times[path] > time.time() + FUTURE:
         raise plant.Fault(f"{path} was sealed in the future: a clock is wrong, or was; set it")
-    if not (has(last_uid(path)) or has(model.first_uid(path.stem))):
+    with sealed.opened(path) as database:
+        ((last_uid, commands, pieces),) = copies.rows(database, OF_IT)
+    if not (has(str(last_uid)) or has(model.first_uid(path.stem))):
         raise plant.Fault(
             f"{path} isn't the running desk's: it is another desk's, or this one was set back. Call"
             " tracedesk-ops check"
         )
     yield "backup_timestamp_seconds", int(times[path]), {}
-    yield "backup_commands", commands_in(path), {}
-    yield "backup_pieces", number_in(path, PIECES), {}
-
-
-def commands_in(path: Path) -> int:
-    with sealed.opened(path) as database:
-        return sealed.size(database, sealed.HISTORY)
-
-
-def last_uid(path: Path) -> str:
-    with sealed.opened(path) as database:
-        return str(copies.rows(database, LAST_UID)[0][0])
-
-
-def number_in(path: Path, query: str) -> int:
-    with sealed.opened(path) as database:
-        return int(copies.rows(database, query)[0][0])
+    yield "backup_commands", int(commands), {}
+    yield "backup_pieces", int(pieces), {}
