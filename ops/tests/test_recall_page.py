@@ -153,8 +153,8 @@ def test_an_answer_that_is_not_complete_says_why(site: Site) -> None:
     until = mirror_of(site)
     page = site.worked_off(site.asked("lot", "L-3"))
     assert "NOT COMPLETE: 0 boards hold a piece of lot L-3, and more may be missing." in page
-    assert f"L2: {site.folder / 'mirror'} has no desk" in page and "pull a newer mirror" in page
-    assert view.spelled(until) in page
+    assert f"L2: {site.folder / 'mirror'} has no desk" in page
+    assert f"{view.spelled(until)}, are not in the answer. Ask on" in page
 
 
 PATIENT = f"""import runpy, sys; sys.path.insert(0, {str(OPS)!r})

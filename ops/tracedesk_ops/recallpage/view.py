@@ -12,12 +12,7 @@ from tracedesk_ops.recalls.certificate import FILE_NAME
 from tracedesk_ops.recalls.signing import SIGNATURE
 from tracedesk_ops.recalls.wording import count
 
-LEFT_OUT = {  # on a page, and not in the spreadsheet
-    "boards": {"file"},
-    "pieces": {"file"},
-    "untraced": {"id", "place", "source"},
-    "doubtful": {"file"},
-}
+LEFT_OUT = {"file", "id", "place", "source"}  # columns that the spreadsheet has, and no page
 MINUTE = re.compile(r"\d{4}-\d\d-\d\dT\d\d:\d\d(:00)?Z")
 MOST_ROWS = 500  # of a table
 NOT_SHIPPED = "Not shipped, or not on the list"
@@ -61,8 +56,8 @@ def rows_in(evidence: pathlib.Path, name: str) -> list[dict[str, str]]:
     return catalogue.csv_table((evidence / f"{name}.csv").read_bytes().decode())
 
 
-def table_of(rows: list[dict[str, str]], name: str, title: str) -> Table:
-    columns = [its for its in (rows[0] if rows else ()) if its not in LEFT_OUT.get(name, ())]
+def table_of(rows: list[dict[str, str]], title: str) -> Table:
+    columns = [its for its in (rows[0] if rows else ()) if its not in LEFT_OUT]
     found = [[spelled(row[its]) for its in columns] for row in rows[:MOST_ROWS]]
     return Table(title, [title_for(its) for its in columns], found, max(0, len(rows) - MOST_ROWS))
 
@@ -75,12 +70,12 @@ def boards_of(evidence: pathlib.Path) -> list[Table]:
     """The boards, a table for each customer; the rest comes first, since it may still be here."""
     rows = rows_in(evidence, "boards")
     if not rows or "customer" not in rows[0]:
-        return [table_of(rows, "boards", f"Boards: {len(rows):,}")]
+        return [table_of(rows, f"Boards: {len(rows):,}")]
     groups: dict[str, list[dict[str, str]]] = {}
     for row in rows:
         groups.setdefault(row.pop("customer"), []).append(row)
     return [
-        table_of(own, "boards", f"{customer or NOT_SHIPPED}: {count(len(own), 'board')}")
+        table_of(own, f"{customer or NOT_SHIPPED}: {count(len(own), 'board')}")
         for customer, own in sorted(groups.items())
     ]
 
@@ -90,8 +85,8 @@ def answer_of(evidence: pathlib.Path) -> ShownAnswer:
     told = json.loads((evidence / FILE_NAME).read_text(encoding="utf-8"))
     more = [("reels", "Reels in stock and on slots"), ("doubtful", "Doubtful pieces")]
     more += [("untraced", "Untraced work"), ("pieces", "Pieces")]
-    its = ((name, text, rows_in(evidence, name)) for name, text in more)
-    tables = [table_of(rows, name, f"{text}: {len(rows):,}") for name, text, rows in its if rows]
+    its = ((text, rows_in(evidence, name)) for name, text in more)
+    tables = [table_of(rows, f"{text}: {len(rows):,}") for text, rows in its if rows]
     facts = [
         f"Asked: {spelled(told['asked_at'])}",
         f"Lines: {', '.join(line['line'] for line in told['lines'])}",
@@ -102,8 +97,8 @@ def answer_of(evidence: pathlib.Path) -> ShownAnswer:
         title=f"Recall of {told['title']}",
         is_complete=told["answer"]["is_complete"],
         headline=spelled(told["sentence"]),
-        reasons=told["reasons"],
-        notes=[*told["notes"], *facts],
+        reasons=[*map(spelled, told["reasons"])],
+        notes=[*map(spelled, told["notes"]), *facts],
         tables=[*boards_of(evidence), *tables],
         limits=told["cannot_know"],
     )
