@@ -7,7 +7,7 @@ import pytest
 from lab.line import table
 from lab.recalls import copied, files_of, lot_of, recall, recalled
 from lab.tools import Word
-from lab.world import ArchivedLine, World
+from lab.world import RUNNING, ArchivedLine, World
 from tracedesk_ops import sealed
 
 pytestmark = [pytest.mark.xdist_group("recall_faults")]
@@ -53,6 +53,16 @@ def test_what_is_altered_is_named(
     change(folder / "L1/sealed" / first)
     done = recall(*words).expect(3, said, "NOT COMPLETE: ")
     assert files_of(table(done.out)) == files - {first}
+
+
+def test_a_mirror_without_one_file_has_the_others(
+    world: World, folder: pathlib.Path, files: set[str]
+) -> None:
+    line, first = world.first, world.first.archived[0].name
+    words = ["lot", lot_of(world), *copied(line, folder / "L1"), "--show", "pieces"]
+    (folder / "L1/sealed" / first).unlink()
+    done = recall(*words).expect(3, "is missing, from which", "has no desk")
+    assert files_of(table(done.out)) == files - {first, RUNNING}
 
 
 # --- A gap in the chain
