@@ -10,11 +10,9 @@ and is younger than half a second. A killed sender calls nothing more, so that t
 one of five hangs before it is killed. A sender that is started again calls `go` only for the board
 that is in work, and not while a message waits. A tablet talks to the line alone.
 
-Two of five refusals come while something else goes wrong for 1.5 seconds: the sender is killed and
-started again, or it is suspended, or the desk is frozen, or the disk of the sender is full. The
-machine must stand from then on, until the slot or the board is in order. Seconds are counted to the
-last moment in which the machine might work: until the call that stops, or until a permission is too
-old.
+After a refusal the machine must stand until the slot or the board is in order. Seconds are counted
+to the last moment in which the machine might work: until the call that stops, or until a permission
+is too old.
 
 examples:
   clients/python/tests/interlocked.py --refusals 100 --tablets 100
@@ -31,7 +29,6 @@ import json
 import os
 import pathlib
 import random
-import resource
 import signal
 import subprocess
 import sys
@@ -46,8 +43,6 @@ from tracedesk_dev import processes, program
 from tracedesk_ops import plant as installed
 
 YOUNG = 0.5  # seconds that a call permits for
-TROUBLES = ("a kill", "a suspend", "a frozen desk", "a full disk")
-TROUBLED, LASTS = 0.4, 1.5  # share of refusals amid one, and its seconds
 Found = TypeVar("Found")
 
 
@@ -79,8 +74,7 @@ class Plant:
         self.log.touch()
         self.board = ""
         command = room / "permit"
-        free = "ulimit -S -f unlimited"  # the log is on a disk that is never full
-        command.write_text(f'#!/bin/sh\n{free}\necho "$(date +%s.%N) $2" >> {self.log}\n')
+        command.write_text(f'#!/bin/sh\necho "$(date +%s.%N) $2" >> {self.log}\n')
         command.chmod(0o755)
         self.line = Served(line, room)
         self.line.furnished(1_000_000)
@@ -157,26 +151,14 @@ class Plant:
         is_young = bool(last) and time.time() - last[0][0] < YOUNG
         return is_young and last[0][1:] == ("go", self.board)
 
-    def refusal(self, from_tablet: bool, trouble: str = "", ahead: float = 0.0) -> float:
-        """Seconds from the answer that refuses until the machine stands. A trouble begins so long
-        before the message, or after it.
-        """
+    def refusal(self, from_tablet: bool) -> float:
+        """Seconds from the answer that refuses until the machine stands."""
         self.wait_for(self.is_idle)
         self.log.write_text("")
         self.begin_board()
         self.wait_for(self.is_permitted)
-        with contextlib.ExitStack() as held:
-            if trouble and ahead > 0:
-                held.enter_context(self.amid(trouble))
-                time.sleep(ahead)
-            refused = self.refused(from_tablet)
-            if trouble and ahead <= 0:
-                time.sleep(-ahead)
-                held.enter_context(self.amid(trouble))
+        refused = self.refused(from_tablet)
         self.wait_for(lambda: self.is_stopped_for_it(refused))
-        time.sleep(2 * YOUNG if trouble else 0)
-        if self.is_permitted():
-            raise AssertionError(f"it works again, amid {trouble or 'nothing'}")
         took = self.permitted_until(refused) - refused
         self.line.decide(len(self.line.book()))
         return took
@@ -204,33 +186,6 @@ class Plant:
             end = max(end, min(until, at))
             until = at + YOUNG if state == "go" else -float("inf")
         return end
-
-    @contextlib.contextmanager
-    def amid(self, trouble: str) -> Iterator[None]:
-        """A trouble that lasts for a while."""
-        if trouble == "a kill":
-            self.kill()
-        elif trouble == "a suspend":
-            self.sender.send_signal(signal.SIGSTOP)
-        elif trouble == "a frozen desk":
-            self.line.process.send_signal(signal.SIGSTOP)
-        else:
-            self.fill_disk(0)
-        yield
-        time.sleep(LASTS)
-        if trouble == "a kill":
-            self.start()
-        elif trouble == "a suspend":
-            self.sender.send_signal(signal.SIGCONT)
-        elif trouble == "a frozen desk":
-            self.line.process.send_signal(signal.SIGCONT)
-        else:
-            self.fill_disk(resource.RLIM_INFINITY)
-
-    def fill_disk(self, most: int) -> None:
-        """No file of the sender can grow above so many bytes."""
-        hard = resource.RLIM_INFINITY
-        resource.prlimit(self.sender.pid, resource.RLIMIT_FSIZE, (most, hard))
 
     def killed(self, chance: random.Random) -> bool:
         """Kills the sender around a start; whether the machine stops, and then goes on with the
@@ -287,7 +242,6 @@ def run(
     """
     chance = random.Random(seed)
     took: Dict[str, List[float]] = {"by machine": [], "by tablet": []}
-    took.update({f"amid {name}": [] for name in TROUBLES})
     deeds = ["kill"] * kills + ["by machine"] * refusals + ["by tablet"] * tablets
     chance.shuffle(deeds)
     done = stopped = 0
@@ -301,10 +255,7 @@ def run(
             if deed == "kill":
                 done, stopped = done + 1, stopped + plant.killed(chance)
             else:
-                trouble = chance.choice(TROUBLES) if chance.random() < TROUBLED else ""
-                seconds = plant.refusal(deed == "by tablet", trouble, chance.uniform(-0.15, 0.15))
-                for name in (deed, f"amid {trouble}")[: 1 + bool(trouble)]:
-                    took[name].append(seconds)
+                took[deed].append(plant.refusal(deed == "by tablet"))
             if number % 20 == 19:
                 say(shown(figures(done, stopped, took)))
         plant.wait_for(plant.is_idle)

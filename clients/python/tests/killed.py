@@ -24,6 +24,12 @@ from tracedesk_dev import trial
 PATIENCE = 900  # seconds without an answer more, after which it stands still
 
 
+def serving(program: pathlib.Path, folder: pathlib.Path, port: int) -> list[Any]:
+    """The words of a desk that is served."""
+    where = ["--db", folder / "desk", "--port", str(port)]
+    return [program, "serve", *where, "--connections", "1000000"]
+
+
 def fed(program: pathlib.Path, file: pathlib.Path, given: bytes) -> bytes:
     """The answers of `feed` to these lines."""
     words: list[Any] = [program, "feed", "--db", file]

@@ -12,6 +12,7 @@ import at_port
 from at_port import PATIENCE, SENDER
 
 Said = Tuple[int, Dict[str, str], Dict[str, Any]]  # a status, headers and an answer
+LOST: Said = (0, {}, {})  # the message is there, and the connection breaks
 
 
 def line(uid: str, word: str = "PartDefined") -> bytes:
@@ -33,6 +34,9 @@ class Answering(at_port.Answering):
         said: Said = 200, {}, {"Answer": "Accepted", "Number": 1, "UniqueID": uid}
         if self.server.script:
             said = self.server.script.pop(0)
+            if said == LOST:
+                self.close_connection = True
+                return
         elif name == "TraceDesk.PartsDefined":
             said = 202, {}, {"Answer": "Ignored", "MessageName": name}
         elif uid.startswith("bad"):
@@ -68,8 +72,12 @@ class Lab:
         head = [sys.executable, str(SENDER), "--url", self.url, "--spool", str(self.spool)]
         return [*head, *map(str, more)]
 
-    def send(self, *more: Any, given: bytes = b"") -> "subprocess.CompletedProcess[bytes]":
-        return subprocess.run(self.words(*more), input=given, capture_output=True, timeout=PATIENCE)
+    def send(
+        self, *more: Any, given: bytes = b"", **how: Any
+    ) -> "subprocess.CompletedProcess[bytes]":
+        return subprocess.run(
+            self.words(*more), input=given, capture_output=True, timeout=PATIENCE, **how
+        )
 
     def uids(self) -> list[str]:
         return [uid for _, uid in self.server.came]

@@ -175,6 +175,22 @@ def test_a_start_after_a_refusal_in_the_same_minute_permits(line: Line) -> None:
     line.start("B1")
 
 
+def test_a_panel_that_is_one_board_has_no_stop_and_no_refusal(line: Line) -> None:
+    """Its units are in the names of its pieces, and the reel has exactly these."""
+    pieces = [f"{unit}.C1" for unit in "1234"]
+    rows = [{"Slot": "1", "PartNumber": "P1", "Designators": pieces}]
+    line.say("SheetDefined", Product="PANEL", Machine="M1", Rows=rows)
+    line.say("ProductSelected", Machine="M1", Product="PANEL")
+    line.scan("MaterialsUnloaded", "1")
+    line.receive("1", "EXACT", len(pieces))
+    line.scan("MaterialsLoaded", "1", "EXACT")
+    line.start("P-60")
+    words = [line.install("P-60", it) for it in pieces]
+    assert words[:-1] == ["go P-60"] * 3
+    assert line.report("WorkCompleted", Board="P-60").startswith("stop NoWork")
+    assert not line.book(), "nothing was refused"
+
+
 def test_a_sender_that_begins_anew_goes_on(line: Line) -> None:
     """In mid-board, also if a clock is set back."""
     line.start()
@@ -337,6 +353,21 @@ def test_a_difference_stops_the_machine_until_its_slot_is_loaded(line: Line) -> 
     line.scan("MaterialsUnloaded", "1")
     line.scan("MaterialsLoaded", "1", "1-K3")
     assert line.word() == "go B1"
+
+
+def test_a_difference_is_kept_whoever_reports_it_and_if_its_answer_is_lost(line: Line) -> None:
+    """A program of the plant's own says it, and hears nothing; then the sender says it again, and
+    a program that isn't the package's.
+    """
+    line.start()
+    reels = {"Designators": ["1a"], "MachineReels": ["G-9"]}
+    told = line.message("MaterialsInstalled", "M1", Machine="M1", Board="B1", **reels)
+    line.asked("/messages", told)
+    assert kinds(line) == [["differs", "1", "G-9", "1-K1"]]
+    line.spool.put(json.dumps(told).encode())
+    line.sender.send_waiting()
+    assert line.spool.names("aside") == [] and len(line.book()) == 1
+    assert line.word().startswith("stop Open (slot 1, G-9, differs")
 
 
 def test_somebody_who_looked_decides_about_a_difference(line: Line) -> None:

@@ -14,7 +14,7 @@ from unittest import mock
 import at_port
 import pytest
 from at_port import PATIENCE, SENDER
-from sending import Lab, Said, line
+from sending import LOST, Answering, Lab, Said, line
 from tracedesk import desk, forms
 
 
@@ -56,12 +56,8 @@ def test_who_only_looks_makes_no_spool(lab: Lab, words: tuple[str, str]) -> None
 
 
 def test_no_answer_is_asked_again_after_pauses_that_grow(lab: Lab) -> None:
-    lab.server.script = [
-        (502, {}, {}),
-        (503, {}, {"Answer": "Unavailable"}),
-        (429, {}, {}),
-        (503, {"Retry-After": "2"}, {}),
-    ]
+    lab.server.script = [LOST, (503, {}, {"Answer": "Unavailable"}), (429, {}, {})]
+    lab.server.script.append((503, {"Retry-After": "2"}, {}))
     lab.send("--put", "-", given=line("u1"))
     done = lab.send()
     times = [at for at, _ in lab.server.came]
@@ -230,6 +226,25 @@ def test_a_message_that_is_too_long_is_not_taken(lab: Lab) -> None:
     assert (done.returncode, lab.uids(), lab.names()) == (1, ["u2"], []), done.stderr
     assert b"000000000001 is faulty: LineTooLong" in done.stderr
     assert at_port.texts_in(lab.spool, "aside") == {"000000000001": long}
+
+
+class TurnsAway(Answering):
+    """Says 413 with the message unread, and closes: the client may still be sending."""
+
+    def do_POST(self) -> None:
+        self.server.came.append((0.0, ""))
+        self.reply(413, b"<html>too large</html>", {"Connection": "close"})
+        self.close_connection = True
+
+
+def test_a_message_that_a_proxy_turns_away_is_tried_seldom(tmp_path: pathlib.Path) -> None:
+    with mock.patch.object(Lab, "answering", TurnsAway):
+        lab = Lab(tmp_path)
+    lab.send("--put", "-", given=line("u1").ljust(forms.LONGEST_MESSAGE))
+    done = lab.send("--patience", "2")
+    assert (done.returncode, len(lab.server.came)) == (4, 1), done.stderr
+    assert b"too long" in done.stderr
+    lab.end()
 
 
 def test_a_message_of_the_archive_is_done(lab: Lab) -> None:

@@ -12,7 +12,6 @@ from typing import Any
 import killed
 import pytest
 from at_port import SENDER
-from proxy_lab import serving
 from station_site import Site
 from tracedesk_dev import shift
 
@@ -48,7 +47,7 @@ class Plant(killed.Run):
     def words(self) -> dict[str, list[Any]]:
         site = self.site
         return {
-            "desk": serving(self.program, site.room, site.desk_port, 1_000_000),
+            "desk": killed.serving(self.program, site.room, site.desk_port),
             "proxy": site.proxy_words(),
             "sender": [
                 sys.executable,

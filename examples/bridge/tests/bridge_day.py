@@ -29,7 +29,6 @@ from at_port import SENDER
 from bridge_lab import MACHINE, Room, elements_of, line_of, ours, said
 from filters import Filter
 from fronts import json_records
-from proxy_lab import serving
 from tracedesk_dev.ports import free_port
 
 
@@ -208,7 +207,7 @@ class Run(killed.Run):
     def words(self) -> dict[str, list[Any]]:
         sender = [sys.executable, SENDER, "--url", f"http://127.0.0.1:{self.port}"]
         return {
-            "desk": serving(self.program, self.at, self.port, 1_000_000),
+            "desk": killed.serving(self.program, self.at, self.port),
             "sender": [*sender, "--spool", self.spool, "--stay"],
             "bridge": self.room.command(*self.source()),
         }
