@@ -84,9 +84,9 @@ class Bridge:
 
     def tell_line(self, text: bytes, guess: dict[str, Any], reason: str) -> None:
         """Has the line's book say of a dead letter that it may be work."""
-        if records.may_be_kept(guess) and not self.dead.has(text):
-            guess = {"Source": self.kept.spool.name, **guess}
-            self.kept.spool.put(records.unread(text, guess, reason))
+        spool = self.kept.spool
+        if records.may_be_kept(guess) and not spool.of_uid(records.unread_id(text)):
+            spool.put(records.unread(text, {"Source": spool.name, **guess}, reason))
 
     def take(self, data: bytes, source: str = "", front: Optional[Front] = None) -> Came:
         """Takes a line, a file or a body of a source, and comes back once what it gives is on

@@ -76,9 +76,6 @@ class Dead:
             ]
         )
 
-    def has(self, text: bytes) -> bool:
-        return digest(text) in self.places
-
     def put(self, text: bytes, why: str) -> str:
         known = digest(text)
         if known not in self.places and len(self.places) >= self.most:

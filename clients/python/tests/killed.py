@@ -50,10 +50,10 @@ def is_as_fed(program: pathlib.Path, folder: pathlib.Path) -> None:
     assert [name for name in wanted if got.get(name) != wanted[name]] == []
 
 
-def answers_in(spool: pathlib.Path) -> list[tuple[int, Any]]:
-    """The answers of a spool, each with the number of its message."""
-    its = rows_in(spool, "SELECT n, answer FROM message WHERE answer NOT NULL ORDER BY n")
-    return [(n, json.loads(answer)) for n, answer in its]
+def kept(spool: pathlib.Path, what: str, which: str) -> list[bytes]:
+    """What a spool has of messages, but of those about dead letters."""
+    those = f"SELECT {what} FROM message WHERE {which} AND uid NOT LIKE 'unread-%' ORDER BY n"
+    return [it for (it,) in rows_in(spool, those)]
 
 
 class Run:
@@ -148,12 +148,11 @@ class Run:
     def look_at(self, given: Sequence[bytes]) -> None:
         """What holds of the desk and the spool, if these messages were wanted in this order."""
         self.end()
-        assert answers_in(self.spool) == [
-            (number, json.loads(line)) for number, line in enumerate(self.clean, 1)
-        ]
+        answers = kept(self.spool, "answer", "answer NOT NULL")
+        assert list(map(json.loads, answers)) == list(map(json.loads, self.clean))
         is_as_fed(self.program, self.at)
-        assert texts_in(self.spool, "aside") == {
-            f"{number:012}": line
-            for number, (line, answer) in enumerate(zip(given, self.clean), 1)
+        assert kept(self.spool, "text", "state = 'aside'") == [
+            line
+            for line, answer in zip(given, self.clean)
             if json.loads(answer)["Answer"] in ("Refused", "Faulty")
-        }
+        ]

@@ -28,7 +28,7 @@ class Answering(at_port.Answering):
 
     def do_POST(self) -> None:
         told = json.loads(self.body())
-        name, uid = told["MessageName"], told["UniqueID"]
+        name, uid = told.get("MessageName"), told["UniqueID"]
         self.server.came.append((time.monotonic(), uid))
         self.server.said.append(told)
         said: Said = 200, {}, {"Answer": "Accepted", "Number": 1, "UniqueID": uid}
@@ -37,6 +37,8 @@ class Answering(at_port.Answering):
             if said == LOST:
                 self.close_connection = True
                 return
+        elif "TimeStamp" not in told:
+            said = 422, {}, {"Answer": "Faulty", "Fault": "EnvelopeMember", "Member": "TimeStamp"}
         elif name == "TraceDesk.PartsDefined":
             said = 202, {}, {"Answer": "Ignored", "MessageName": name}
         elif uid.startswith("bad"):
@@ -52,7 +54,6 @@ class Server(at_port.Server):
         self.came: list[tuple[float, str]] = []
         self.said: list[dict[str, Any]] = []
         self.script: list[Said] = []
-        self.slots = ""  # the report of the reels, for who asks
         self.put: dict[str, bytes] = {}  # files that came, by their paths
         super().__init__(answering)
 

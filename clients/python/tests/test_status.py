@@ -9,7 +9,7 @@ import at_port
 import pytest
 import sending
 import test_spool
-from tracedesk import disk, forms, spool
+from tracedesk import disk, forms, records, spool
 
 
 def work(uid: str, word: str = "WorkStarted", **body: Any) -> bytes:
@@ -73,7 +73,8 @@ def test_a_refused_report_is_never_sent_again(lab: StatusLab) -> None:
     again, *lost = lab.server.said
     assert again["UniqueID"] == "u4" and "Sha256" not in again
     assert [json.loads(it["Text"])["UniqueID"] for it in lost] == ["bad1", "bad2"]
-    assert not any("TimeStamp" in it for it in lost), "so it is faulty"
+    assert all(map(records.is_unread, lost)), "without a time they are faulty"
+    assert lab.names("sent")[-2:] == ["000000000006", "000000000007"]
 
 
 @pytest.mark.parametrize(
@@ -104,7 +105,8 @@ def test_the_line_hears_of_a_report_that_is_too_long(lab: StatusLab) -> None:
     lab.send("--put", "-", given=long)
     assert lab.send().returncode == 1
     (told,) = lab.server.said
-    assert (told["UniqueID"], told["Size"], told["Text"]) == ("bad1", len(long), None)
-    assert told["MessageBody"] == {"Machine": "M1", "Board": "B1"} and "TimeStamp" not in told
+    assert records.is_unread(told) and told["UniqueID"].startswith("unread-")
+    assert (told["Size"], told["Text"]) == (len(long), None)
+    assert told["MessageBody"] == {"Machine": "M1", "Board": "B1"}
     assert len(json.dumps(told)) < forms.LONGEST_MESSAGE
     assert at_port.texts_in(lab.spool, "aside") == {"000000000001": long}

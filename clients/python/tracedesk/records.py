@@ -78,21 +78,25 @@ def is_unread(told: Dict[str, Any]) -> bool:
     return "TimeStamp" not in told and {"Why", "Text", "Sha256"} <= told.keys()
 
 
-def unread(text: bytes, told: Dict[str, Any], why: str, name: str = "") -> bytes:
+def unread_id(text: bytes) -> str:
+    """The UniqueID of the message about a text that no desk can read."""
+    return f"unread-{hashlib.sha256(text).hexdigest()[:32]}"
+
+
+def unread(text: bytes, told: Dict[str, Any], why: str) -> bytes:
     """A message that says of another one, or of a machine's record, that no desk can read it. It
     has no time, so it is faulty: by that the line's book has an entry of it, with its bytes unless
     they are too many.
     """
-    sum_ = hashlib.sha256(text).hexdigest()
     body = told.get("MessageBody")
     its = body.items() if isinstance(body, dict) else ()
     message = {
-        "UniqueID": name or f"unread-{sum_[:32]}",
+        "UniqueID": unread_id(text),
         **{it: told[it] for it in ("MessageName", "Source") if isinstance(told.get(it), str)},
         "MessageBody": {it: value for it, value in its if len(json.dumps(value)) <= MOST_TOLD},
         "Why": why[:MOST_TOLD],
         "Text": text.decode("utf-8", "backslashreplace") if len(text) <= 100 * MOST_TOLD else None,
-        "Sha256": sum_,
+        "Sha256": hashlib.sha256(text).hexdigest(),
         "Size": len(text),
     }
     return json.dumps(message).encode()

@@ -70,7 +70,7 @@ class Sender:
         if len(text) > forms.LONGEST_MESSAGE:
             if records.may_be_kept(told):
                 why = words.FAULTS["LineTooLong"]
-                self.desk.send(records.unread(text, told, why, uid_of(text)[:64]))
+                self.desk.send(records.unread(text, told, why))
             return answers.LINE_TOO_LONG, told
         _, is_tried = patiently(lambda: self.spool.take(name), self.tell)
         try:
@@ -89,7 +89,8 @@ class Sender:
         for name in names:
             self.interlock.ask(self.desk)
             answer, told = self.answer_to(name)
-            is_taken = answers.is_taken(answer)
+            is_said = records.is_unread(told)
+            is_taken = is_said or answers.is_taken(answer)
             if answers.word_of(told) in JUDGED or contradicts(told, answer) or not is_taken:
                 self.interlock.forget(told)  # until the answer is kept its message waits
                 self.interlock.ask(self.desk)
@@ -99,7 +100,7 @@ class Sender:
                     f"message {name} is {answers.why(answer)}. It is set aside in {self.spool.path}"
                     + (IS_REPORT if records.is_report(told) else "")
                 )
-            patiently(lambda: self.spool.done(name, answer), self.tell)
+            patiently(lambda: self.spool.done(name, answer, is_said), self.tell)
             self.look_at_what_is_kept()
         return len(names)
 

@@ -264,12 +264,14 @@ class Spool:
         """Says that a message which was taken was not sent, or had its answer."""
         self.change("UPDATE message SET tried = 0 WHERE n = ?", number_of(name))
 
-    def done(self, name: str, answer: answers.Answer) -> None:
-        """Keeps the answer to a message, and where it belongs now."""
+    def done(self, name: str, answer: answers.Answer, is_said: bool = False) -> None:
+        """Keeps the answer to a message, and where it belongs now: whether it is sent although it
+        isn't taken, as one that says what no desk can read.
+        """
         self.change(
             "UPDATE message SET state = ?, answered = ?, answer = ?, archived = ?"
             " WHERE n = ? AND state = 'waiting'",
-            "sent" if answers.is_taken(answer) else "aside",
+            "sent" if is_said or answers.is_taken(answer) else "aside",
             time.time(),
             answer.text,
             answers.is_archived(answer),
@@ -306,9 +308,7 @@ class Spool:
                 since,
             ):
                 told = records.as_read(text if len(text) <= MOST_READ else b"")
-                if records.is_unread(told):
-                    self.put(text)
-                elif records.may_be_kept(told):
+                if records.may_be_kept(told):
                     self.put(records.unread(text, told, "it was refused before a restore"))
         return [spelled(n) for (n,) in its]
 

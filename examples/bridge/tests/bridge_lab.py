@@ -109,7 +109,9 @@ class Room:
             self.running = None
 
     def waiting(self) -> list[str]:
-        return [str(json.loads(it)["UniqueID"]) for it in self.texts()]
+        """The UniqueIDs of messages, but of those about dead letters."""
+        uids = [str(json.loads(it)["UniqueID"]) for it in self.texts()]
+        return [it for it in uids if not it.startswith("unread-")]
 
     def texts(self, state: str = "waiting") -> list[bytes]:
         """The messages of a state, in their order."""

@@ -82,7 +82,7 @@ def test_what_no_one_can_read_is_a_dead_letter(room: Room, broker: Broker) -> No
     broker.send(message(keys), Odd(), message(start("a")))
     room.running = subprocess.Popen(room.command(*broker.words), stderr=subprocess.DEVNULL)
     room.wait_for(["a"])
-    room.move(1, "sent")
+    room.move(0, "sent")
     time.sleep(2)
     room.end()
     assert broker.left() == 0

@@ -34,7 +34,7 @@ def test_each_line_of_standard_input_is_answered(room: Room) -> None:
         "passed CFX.Heartbeat",
         "dead 00000001",
         "dead 00000002",
-        "kept 000000000002",
+        "kept 000000000004",
         "kept 000000000001",
         "passed []",
         "dead 00000003",

@@ -34,7 +34,7 @@ def answer(room: Room) -> int:
 
 
 def everything(room: Room) -> list[str]:
-    its = rows_in(room.spool, "SELECT uid FROM message ORDER BY n")
+    its = rows_in(room.spool, "SELECT uid FROM message WHERE uid NOT LIKE 'unread-%' ORDER BY n")
     return [uid for (uid,) in its]
 
 
