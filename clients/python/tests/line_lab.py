@@ -3,6 +3,7 @@ it; and a sender of machine M1 in this process.
 """
 from __future__ import annotations
 
+import contextlib
 import csv
 import http.client
 import io
@@ -140,6 +141,8 @@ class Line(Served):
     def begin_sender(self) -> None:
         self.spool = spool.Spool(self.room / "spool", name="m1")
         self.desk = desk.Desk(self.url)
+        # nothing hangs here: a busy machine is waited for, and no thread looks at each request
+        setattr(self.desk, "within", lambda *_: contextlib.nullcontext())
         self.states = interlock.Interlock(self.spool, ["M1"])
         self.sender = sender.Sender(
             self.spool, self.desk, tell=self.told.append, interlock=self.states
