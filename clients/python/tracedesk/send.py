@@ -84,17 +84,22 @@ not taken. It is set aside in the spool, with the reason, and the next one is se
 has an entry of each report of work among them, also of one that is too long to be sent.
 --patience SECONDS  for one message, else without an end. A line after ten seconds, and then each
                    minute, says that there is no answer, and why
-The password is in FILE, or in the environment as TRACEDESK_PASSWORD.
+--timeout SECONDS  for one answer (150)
+--url URL          the desk, or the proxy in front of it (http://127.0.0.1:8080)
+WHO is, by https:
+--ca FILE          who signed the other's certificate; else whom this machine trusts
+--user NAME        with --password-file FILE, or the password in the environment as
+                   TRACEDESK_PASSWORD
+--cert FILE        a certificate in place of a password, with --key FILE
 
 A full disk, and a file that can't be read, are reported and waited out. Standard output may be
 closed: nothing more is printed.
 
 Exit status: 0 every message has its answer, or the check found no fault; 1 some messages were set
 aside in this run, or the check found a fault; 2 bad command line, or a file or a spool that can't
-be used; 3 given up: no answer in all the time that was given;
-4 a message can't be sent so, and standard error says why; 5 an error of this program, which
-standard error has; 6 a report of work is not sent again: a person has to decide. With 3, 4 and 5
-what has no answer is sent by the next run.
+be used; 3 given up: no answer in all the time that was given; 4 a message can't be sent so, and
+standard error says why; 5 an error of this program, which standard error has; 6 a report of work is
+not sent again: a person has to decide. With 3, 4 and 5 what has no answer is sent by the next run.
 """
 from __future__ import annotations
 
@@ -105,12 +110,21 @@ import pathlib
 import re
 import sqlite3
 import sys
-from typing import Optional
+from typing import Any, Dict, Optional
 
 from . import __version__, by_hand, command, desk, disk, interlock, sender, spool, status
 from . import validate
 from .console import NAME, ended, say, tell
 
+TEXTS = {
+    **{"ca": "FILE", "user": "NAME", "password-file": "FILE", "cert": "FILE", "key": "FILE"},
+    **{"spool": "FILE", "status": "FOLDER", "name": "NAME", "interlock": "COMMAND"},
+}
+NUMBERS: Dict[str, Optional[float]] = {
+    **{"patience": None, "timeout": desk.TIMEOUT, "silence": interlock.SILENCE},
+    **{"every": interlock.EVERY, "keep-days": spool.KEPT_DAYS},
+    "keep-mib": spool.KEPT_BYTES / (1 << 20),
+}
 NAMED = re.compile("[A-Za-z0-9_-][A-Za-z0-9._-]{0,63}")
 
 
@@ -181,63 +195,23 @@ def reader_of_words() -> argparse.ArgumentParser:
         formatter_class=argparse.RawDescriptionHelpFormatter,
         usage=argparse.SUPPRESS,
     )
-    reader.add_argument(
-        "--url",
-        type=url,
-        default="http://127.0.0.1:8080",
-        help="the desk, or the proxy in front of it (http://127.0.0.1:8080)",
-    )
-    reader.add_argument(
-        "--ca",
-        metavar="FILE",
-        help="who signed the other's certificate; else whom this machine trusts",
-    )
-    reader.add_argument("--user", metavar="NAME")
-    reader.add_argument("--password-file", metavar="FILE")
-    reader.add_argument("--cert", metavar="FILE", help="a certificate in place of a password")
-    reader.add_argument("--key", metavar="FILE", help="its key")
-    reader.add_argument("--patience", type=float, metavar="SECONDS", help="for one message")
-    reader.add_argument(
-        "--timeout",
-        type=float,
-        default=desk.TIMEOUT,
-        metavar="SECONDS",
-        help=f"for one answer ({desk.TIMEOUT:.0f})",
-    )
-    reader.add_argument("--spool", metavar="FILE", help="where messages wait")
-    reader.add_argument(
-        "--keep-days",
-        type=float,
-        default=spool.KEPT_DAYS,
-        metavar="N",
-        help="how long sent messages are kept",
-    )
-    reader.add_argument(
-        "--keep-mib",
-        type=float,
-        default=spool.KEPT_BYTES / (1 << 20),
-        metavar="N",
-        help="how much disk they may take",
-    )
-    what = reader.add_mutually_exclusive_group()
-    what.add_argument(
-        "--follow",
-        metavar="FOLDER",
-        help="the messages for the spool: a folder, or - for standard input",
-    )
-    what.add_argument("--stay", action="store_true")
-    what.add_argument("--put", metavar="FILE")
+    hidden: Dict[str, Any] = {"help": argparse.SUPPRESS}
+    reader.add_argument("--url", type=url, default="http://127.0.0.1:8080", **hidden)
+    for name, what in TEXTS.items():
+        reader.add_argument(f"--{name}", metavar=what, **hidden)
+    for name, usual in NUMBERS.items():
+        reader.add_argument(f"--{name}", type=float, default=usual, metavar="N", **hidden)
+    reader.add_argument("--machine", action="append", default=[], **hidden)
+    do = reader.add_mutually_exclusive_group()
+    for name in ("follow", "put", "validate"):
+        do.add_argument(f"--{name}", metavar="FILE", **hidden)
     for name in ("again", "show", "drop", "release"):
-        what.add_argument(f"--{name}", nargs="+", metavar="NAME")
-    what.add_argument("--list", choices=(*by_hand.STATES, "all"))
-    what.add_argument("--check", action="store_true")
-    what.add_argument("--validate", metavar="FILE")
-    for name in ("status", "name", "interlock"):
-        reader.add_argument(f"--{name}")
-    reader.add_argument("--machine", action="append", default=[])
-    reader.add_argument("--silence", type=float, default=interlock.SILENCE)
-    reader.add_argument("--every", type=float, default=interlock.EVERY)
-    reader.add_argument("--version", action="version", version=f"tracedesk-send {__version__}")
+        do.add_argument(f"--{name}", nargs="+", metavar="NAME", **hidden)
+    for name in ("stay", "check"):
+        do.add_argument(f"--{name}", action="store_true", **hidden)
+    do.add_argument("--list", choices=(*by_hand.STATES, "all"), **hidden)
+    version = f"tracedesk-send {__version__}"
+    reader.add_argument("--version", action="version", version=version, **hidden)
     return reader
 
 
