@@ -154,13 +154,17 @@ export class LineScreen {
   }
 
   /** What is said of an entry that nobody has decided about, what to do, and a way to do it. */
-  openTexts({ n, machine, slot, board, word, told }) {
+  openTexts({ n, kind, slot, word, told, ...its }) {
     const texts = TEXTS.line;
-    const where = slot === "" ? machine : said(texts.urgent.where, { machine, slot });
+    const saidOf = (name) => new RegExp(`"${name}":\\s*"([^"]*)"`).exec(told)?.[1] ?? "";
+    const machine = its.machine || saidOf("Machine"); // what can't be read has them in its text
+    const board = its.board || saidOf("Board");
+    const where = slot === "" ? machine || "?" : said(texts.urgent.where, { machine, slot });
     const [title] = TEXTS.refusals[word] ?? [`${word} {at}`];
-    const message = /"TraceDesk\.(\w+)"/.exec(told)?.[1] ?? "";
-    const time = Date.parse(/"TimeStamp":\s*"([^"]*)"/.exec(told)?.[1] ?? "");
-    const values = { where, board, message, refusal: said(title, { at: slot || board }) };
+    const message = /"TraceDesk\.(\w+)"/.exec(told)?.[1] ?? "?";
+    const time = Date.parse(saidOf("TimeStamp"));
+    const refusal = kind === "unread" ? TEXTS.verdict.faulty : said(title, { at: slot || board });
+    const values = { where, board, message, refusal };
     const acknowledge = () => this.station.decide(Number(n), "looked at");
     return [
       said(texts.untraced, { ...values, time: Number.isNaN(time) ? "?" : dayAnd(time) }),
