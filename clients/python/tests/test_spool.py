@@ -275,7 +275,7 @@ def test_of_a_line_that_is_far_too_long_the_beginning_is_kept(lab: Lab) -> None:
 def test_sent_messages_go_again_in_front(lab: Lab) -> None:
     it = lab.sent([b"a", b"b"])
     ((began,),) = it.rows("SELECT answered FROM message WHERE n = 2")
-    lab.sent([b"bad"], refused())
+    lab.sent([b'{"MessageName":"TraceDesk.PartDefined"}'], refused())
     lab.sent([b"c"])
     it.put(b"d")
     for number in range(1, 4):  # ended anywhere, and gone on with

@@ -109,9 +109,11 @@ class Room:
             self.running = None
 
     def waiting(self) -> list[str]:
-        """The UniqueIDs of messages, but of those about dead letters."""
-        uids = [str(json.loads(it)["UniqueID"]) for it in self.texts()]
-        return [it for it in uids if not it.startswith("unread-")]
+        return [str(it["UniqueID"]) for it in self.made()]
+
+    def made(self) -> list[dict[str, Any]]:
+        """The messages that wait, but those about dead letters."""
+        return [it for it in map(json.loads, self.texts()) if "Sha256" not in it]
 
     def texts(self, state: str = "waiting") -> list[bytes]:
         """The messages of a state, in their order."""

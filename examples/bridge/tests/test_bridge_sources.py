@@ -205,7 +205,7 @@ def test_numbers_that_others_round_keep_their_digits(room: Room) -> None:
     done = room.run(given=b"\n".join(named), status=1)
     got = [it.split()[0] for it in done.stdout.decode().splitlines()]
     assert got == ["kept"] * len(numbers) + ["dead"] * len(wrong)
-    boards = [json.loads(it)["MessageBody"]["Board"] for it in room.texts()]
+    boards = [it["MessageBody"]["Board"] for it in room.made()]
     assert boards == [f"{it.decode()}-1".replace("17.0", "17") for it in numbers]
 
 
