@@ -3,6 +3,7 @@
 import { button, el } from "./dom.js";
 import { isName } from "./names.js";
 import { said } from "./say.js";
+import { play } from "./sound.js";
 import { TEXTS } from "./words.js";
 
 /** The slot and the reel of a line of text: with a tab, a semicolon or a comma between them. */
@@ -26,6 +27,12 @@ export function read(text) {
   return rows.length ? { rows } : { wrong: "row", row: 1, text: "" };
 }
 
+/** A list of rows with one more, in the place of what they have of its slot or its reel. */
+export function withRow(rows, { slot, reel }) {
+  const others = rows.filter((it) => it.slot !== slot && it.reel !== reel);
+  return [...others, { slot, reel }].map((it) => `${it.slot}\t${it.reel}`).join("\n");
+}
+
 /** What to unload and then to load, so that each slot has the reel of its row. */
 export function plan(rows, slots) {
   const load = rows.filter((it) => !slots.some((on) => on.slot === it.slot && on.reel === it.reel));
@@ -44,6 +51,7 @@ export class Cart {
   constructor(station) {
     this.station = station;
     this.text = "";
+    this.scans = null; // of which machine slots and reels are scanned into the list
     this.counts = { accepted: 0, refused: 0 };
   }
 
@@ -52,12 +60,47 @@ export class Cart {
     this.said = el("p", { class: "note", role: "status", hidden: true });
     this.list = el("textarea", { rows: "3", "aria-label": texts.label, placeholder: texts.label });
     this.list.value = this.text;
+    this.scans = null;
     const { lines } = this.station.model;
+    const scan = button(
+      texts.scan,
+      () => this.scanList(scan, scan.getAttribute("aria-pressed") === "false"),
+      { "aria-pressed": "false" },
+    );
     const loads = lines.map(
       ({ machine }) => button(said(texts.load, { machine }), () => this.load(machine)),
     );
-    const row = el("p", { class: "buttons" }, this.list, loads);
+    const row = el("p", { class: "buttons" }, this.list, loads, scan);
     return el("section", { class: "cart" }, row, this.said);
+  }
+
+  /** From now on scans of slots and reels go into the list, or not any more. */
+  scanList(pressed, isOn) {
+    pressed.setAttribute("aria-pressed", String(isOn));
+    this.scans = isOn ? { machine: null } : null;
+  }
+
+  /** Whether scans go into the list: while its screen is there. */
+  isScanned() {
+    return this.scans !== null && this.station.screen === "changeover";
+  }
+
+  /** A slot and a reel that were scanned are a row, or a fault. Nothing is sent. */
+  add({ machine, slot, reel }) {
+    const texts = TEXTS.cart;
+    const { rows = [], wrong, ...where } = read(this.list.value);
+    const isOther = this.scans.machine !== null && this.scans.machine !== machine;
+    if (isOther || (wrong && this.list.value.trim() !== "")) {
+      const why = isOther ? texts.other : texts[wrong];
+      this.station.fault(said(why, { ...where, machine: this.scans.machine }));
+      return true;
+    }
+    this.scans.machine = machine;
+    this.text = withRow(rows, { slot, reel });
+    this.list.value = this.text;
+    this.say(said(texts.listed, { machine, slot, reel, count: this.text.split("\n").length }));
+    play("accepted");
+    return true;
   }
 
   say(text) {

@@ -204,12 +204,17 @@ export class Scan {
   }
 
   /**
-   * A reel for a slot. One that is on that slot already is verified, and nothing is sent. The desk
+   * A reel for a slot, or a row of the list that is scanned. One that is on that slot already is
+   * verified, and nothing is sent. The desk
    * is asked for its slots anew if the page has the reel there, or doesn't know the slots now.
    */
   async mounted({ machine, slot, reel }) {
     const on = { machine, slot };
     const { model } = this.station;
+    if (this.station.listed({ ...on, reel })) {
+      this.clear();
+      return null;
+    }
     const isOn = model.isOn(machine, slot, reel);
     if (this.about(on).length || (!isOn && this.isKnown(machine))) {
       return this.act(this.isLive(on) ? "SPLICE" : "LOAD", { ...on, reel });

@@ -324,6 +324,12 @@ export class Station {
     }
   }
 
+  /** Whether a slot and a reel go into the list that is scanned, and are no load. */
+  listed(values) {
+    const { cart } = this.screens.changeover;
+    return cart.isScanned() && cart.add(values);
+  }
+
   /** An action, with its values. */
   act(action, values) {
     return this.send(WORDS[action], bodyOf(action, values), values);

@@ -484,6 +484,11 @@ export const TEXTS = {
   cart: {
     label: "Wagen: eine Zeile je Platz, wie 1,K-01",
     load: "Nach der Liste auf {machine} rüsten",
+    scan: "LISTE SCANNEN",
+    listed:
+      "{machine} {slot}: {reel} ist auf der Liste, mit {count} {count|Platz|Plätzen}. Nichts " +
+      "wird gesendet",
+    other: "Diese Liste ist von {machine}. Danach rüsten, oder eine neue beginnen",
     ask:
       "{machine}: Nach dieser Liste {unload|wird|werden} {unload} {unload|Platz|Plätze} " +
       "abgerüstet, dann {load} {load|Platz|Plätze} gerüstet. Steht der Wagen an der Maschine?",

@@ -465,6 +465,11 @@ export const TEXTS = {
   cart: {
     label: "Carro: una fila por posición, como 1,K-01",
     load: "Cargar la lista en {machine}",
+    scan: "ESCANEAR LA LISTA",
+    listed:
+      "{machine} {slot}: {reel} está en la lista, de {count} {count|posición|posiciones}. No se " +
+      "envía nada",
+    other: "Esta lista es de {machine}. Cárguela o empiece otra",
     ask:
       "{machine}: según esta lista se {unload|descarga|descargan} {unload} " +
       "{unload|posición|posiciones} y luego se {load|carga|cargan} {load} " +

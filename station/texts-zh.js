@@ -374,6 +374,9 @@ export const TEXTS = {
   cart: {
     label: "料车：每个站位一行，如 1,K-01",
     load: "按清单装到 {machine}",
+    scan: "扫描清单",
+    listed: "{machine} {slot}：{reel} 已在清单上，共 {count} 个站位。不发送任何消息",
+    other: "此清单属于 {machine}。请先装料，或另建清单",
     ask:
       "{machine}：按此清单先卸下 {unload} 个站位，再装 {load} 个站位。料车已在机器旁吗？",
     none: "每个站位已是清单上的料盘。",

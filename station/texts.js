@@ -452,6 +452,10 @@ export const TEXTS = {
   cart: {
     label: "Cart: a row for each slot, as 1,K-01",
     load: "Load the list on {machine}",
+    scan: "SCAN THE LIST",
+    listed:
+      "{machine} {slot}: {reel} is on the list, of {count} {count|slot|slots}. Nothing is sent",
+    other: "This list is of {machine}. Load it, or begin another one",
     ask:
       "{machine}: by this list {unload} {unload|slot is|slots are} unloaded, then {load} " +
       "{load|slot is|slots are} loaded. Is the cart at the machine?",

@@ -320,6 +320,34 @@ def load(it: Operator, text: str) -> None:
     )
 
 
+def test_a_list_is_scanned_and_then_loaded(site: Site) -> None:
+    """A slot and a reel are a row, the newest one of its slot, and nothing is sent before the list
+    is loaded. On another screen a scan is one of that screen.
+    """
+    said = "return document.querySelector('.cart .note').textContent"
+    text = "return document.querySelector('.cart textarea').value"
+    with Operator(site) as it:
+        it.ready().go("changeover")
+        it.script("document.querySelector('.cart [aria-pressed]').click()")
+        for slot, reel in (("2", "K-1"), ("10", "K-8"), ("2", "K-2")):
+            it.scan(f"S/M1/{slot}")
+            it.scan(reel)
+            wait_for("it is a row", lambda: f"{slot}\t{reel}" in it.script(text))
+        it.scan("S/M2/2")
+        it.scan("K-2")
+        wait_for("it is another's", lambda: "This list is of M1" in it.text("verdict"))
+        it.seen()
+        if it.script(text) != "10\tK-8\n2\tK-2" or it.kept():
+            raise Difference(f"{it.script(text)} {it.kept()}")
+        load(it, it.script(text))
+        it.verdict(("ask",))
+        it.scan("A/ENTER")
+        wait_for("the list is done", lambda: "done: 2 accepted" in it.script(said))
+        it.go("line")
+        it.does("S/M1/3", "K-4")
+        whole(site, it, 3)
+
+
 def test_a_cart_by_one_list(site: Site) -> None:
     """One list loads a machine's slots: a reel that is there stays, what is in the way goes first.
     Greens are counted, and a refusal is shown. A list that is wrong sends nothing.

@@ -2,7 +2,7 @@ import assert from "node:assert/strict";
 import test from "node:test";
 import "./page.mjs";
 
-const { isQuiet, plan, read } = await import("../../cart.js");
+const { isQuiet, plan, read, withRow } = await import("../../cart.js");
 const row = (slot, reel) => ({ slot, reel });
 
 test("a list has a slot and a reel in each row, with a comma, a semicolon or a tab", () => {
@@ -20,6 +20,14 @@ test("a row that is wrong is named, and nothing is taken of that list", () => {
   assert.deepEqual(read("1,K-1\n\n1,K-2"), { wrong: "twice", row: 3, text: "1,K-2" });
   assert.deepEqual(read("1,K-1\n2,K-1"), { wrong: "twice", row: 2, text: "2,K-1" });
   assert.equal(read(" \n").wrong, "row");
+});
+
+test("a scanned slot and reel is a row, in the place of what was there of them", () => {
+  const rows = [row("1", "K-1"), row("2", "K-2")];
+  assert.equal(withRow([], row("A,1", "K-1")), "A,1\tK-1");
+  assert.equal(withRow(rows, row("1", "K-3")), "2\tK-2\n1\tK-3");
+  assert.equal(withRow(rows, row("3", "K-2")), "1\tK-1\n3\tK-2");
+  assert.deepEqual(read(withRow(rows, row("3", "K-3"))).rows, [...rows, row("3", "K-3")]);
 });
 
 test("a reel that is on its slot stays, and what is in the way goes first", () => {

@@ -34,6 +34,7 @@ function page(live = [], rows = null, isKnown = true) {
       ask: (question) => told.questions.push(question),
     },
     act: (action, values) => told.acted.push([action, values]),
+    listed: () => told.isListed === true,
     fault: (text) => told.faults.push(text),
     scanned: () => {},
     cancel: () => scan.clear(),
