@@ -39,9 +39,12 @@ class World:
 
     @contextlib.contextmanager
     def lives(self) -> Iterator[None]:
-        with mock.patch.object(interlock, "clock", lambda: self.now):
-            with mock.patch.object(spool, "clock", lambda: self.now):
-                yield
+        """Its time passes in steps, however long they take a machine that is busy."""
+        with contextlib.ExitStack() as held:
+            for owner, name in ((interlock, "clock"), (spool, "clock")):
+                held.enter_context(mock.patch.object(owner, name, lambda: self.now))
+            held.enter_context(mock.patch.object(spool, "ahead", lambda: 0.0))
+            yield
 
     # --- The machine and its bridge
 
