@@ -18,7 +18,7 @@ import ssl
 import subprocess
 import sys
 import time
-from typing import Any, Iterator
+from typing import Iterator
 
 import pytest
 from tracedesk_dev import ROOT

@@ -42,8 +42,8 @@ def contradicts(told: Dict[str, Any], answer: answers.Answer) -> bool:
 
 
 class Sender:
-    """The one sender of a spool. A message that is not taken is set aside; a report of work is never
-    sent again.
+    """The one sender of a spool. A message that is not taken is set aside; a report of work is
+    never sent again.
     """
 
     def __init__(
