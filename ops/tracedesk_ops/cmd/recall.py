@@ -28,11 +28,11 @@ that changed lines is followed under its other names. ATTRIBUTE is reel, part, l
 supplier, maker_part or order, as the reel's receipt says it. If it is named twice, a reel has one
 of the values. A reel whose receipt doesn't say it may be one of them: then the status is 3.
 
---line          a line's name, and its folder, or a mirror of it: there the newest sealed file stands
-                for the desk
+--line          a line's name, and its folder, or a mirror of it: there the newest sealed file
+                stands for the desk
 --as-of TIME    the answer is complete for what was reported before, if each mirror goes on to it;
-                without this option none over a mirror is complete. `mirrors` is the end of the oldest
-                mirror, of those of the last two days
+                without this option none over a mirror is complete. `mirrors` is the end of the
+                oldest mirror, of those of the last two days
 --within PIECES  a label may be wrong by so many pieces: those so near a splice that they may be of
                 the neighbour are doubtful, from the second splice of a tape on the more
 --show TABLE    the table to print as CSV; without it pieces of a board, and boards of a lot or reel
@@ -49,9 +49,9 @@ of the values. A reel whose receipt doesn't say it may be one of them: then the 
 --key FILE      the private key that signs the evidence, as ssh-keygen makes it, or the socket of
                 tracedesk-recall-sign; without it the `key` of the line's set-up file, if it has one
 
-Exit status: 0 all were asked; 1 all were asked, and none knows the name; 2 bad command line, or a
-list that can't be read; 3 not complete, for the reasons on standard error; 4 the answer can't be written; 5 all were asked, and pieces
-are doubtful; 9 an unexpected failure.
+Exit status: 0 complete; 1 complete, and nobody knows the name; 2 bad command line, or a list that
+can't be read; 3 not complete, for the reasons on standard error; 4 the answer can't be written;
+5 complete, and pieces are doubtful; 9 an unexpected failure.
 """
 from __future__ import annotations
 

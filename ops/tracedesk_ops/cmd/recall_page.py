@@ -13,10 +13,10 @@ examples:
 The proxy lets readers with a log-in of /etc/tracedesk/recallers in, and names them in the header
 X-Reader. `serve` takes their questions into the queue, and shows the answers. It reads no desk's
 file. `work` calls tracedesk-recall for each of them, over the lines and the mirrors that are set
-up, and writes holds and releases into the books of the lines. What is cut off, as by a restart, is done anew. A recall that takes
-more than four hours is stopped, and each ends, so that the next one is run. A program of a recall
-may take 4 GiB, and a paper five minutes of the processor. The queue is on disk, and answers stay
-there until somebody deletes them.
+up, and writes holds and releases into the books of the lines. What is cut off, as by a restart, is
+done anew. A recall that takes more than four hours is stopped, and each ends, so that the next one
+is run. A program of a recall may take 4 GiB, and a paper five minutes of the processor. The queue
+is on disk, and answers stay there until somebody deletes them.
 
 --queue   the folder of the queue (/var/lib/tracedesk-recall), with the folders asked and answers
 --socket  where the proxy finds the page (/run/tracedesk-recall/socket)

@@ -26,7 +26,7 @@ class Asked(NamedTuple):
 
 
 class Answered(NamedTuple):
-    """The files of a line; why they are no chain; and links that are known by the checksum alone."""
+    """The files of a line, why they are no chain, and links known by their checksums alone."""
 
     files: list[Asked]
     fault: Exception | None = None
@@ -34,8 +34,8 @@ class Answered(NamedTuple):
 
 
 class Recall:
-    """A question with what came of it: `faults` are why the answer isn't complete, each with what to
-    do, and `notes` what a reader has to know besides.
+    """A question with what came of it: `faults` are why the answer isn't complete, each with what
+    to do, and `notes` what a reader has to know besides.
     """
 
     def __init__(self, question: Question, those: Surveyed, chain: chains.Asker) -> None:
