@@ -173,7 +173,7 @@ def test_hostile_names(site: Site) -> None:
         it.ready()
         for name in HOSTILE:
             it.does(f"S/{machine}/{name}", name, holds=("LOADED", name))
-            it.does(f"S/{machine}/{name}", name, kind="refused", holds=(name,))
+            it.does(f"S/{machine}/{name}", name, holds=("VERIFIED", name))
         site.say("WorkStarted", {"Machine": machine, "Board": HOSTILE[0]})
         site.say(
             "MaterialsInstalled", {"Machine": machine, "Board": HOSTILE[0], "Designators": ["C0"]}

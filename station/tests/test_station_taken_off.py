@@ -100,7 +100,7 @@ def test_a_reel_is_taken_off_after_the_right_one_was_loaded(site: Site) -> None:
     with Operator(site) as it:
         it.ready().scan("B/anna")
         it.does("S/M1/3", "K-2", kind="refused")
-        site.say("MaterialsSpliced", {"Machine": "M1", "Slot": "3", "Reel": "K-7"})
+        site.say("MaterialsLoaded", {"Machine": "M1", "Slot": "3", "Reel": "K-7"})
         wait_for("the entry is closed", lambda: not causes(site))
         press(it)
         press(it)
