@@ -186,7 +186,7 @@ def test_status_is_put_by_senders(site: Site) -> None:
         ("PUT", "/line/status/m2.json", "op", 403),
         ("DELETE", STATUS, "op", 403),
         ("MKCOL", STATUS, "op", 403),
-        ("PUT", "/line/untraced/" + "0" * 32 + ".json", "op", 403),
+        ("PUT", "/line/untraced/" + "0" * 32 + ".json", "op", 404),
         ("PUT", "/line/status/.m1.json", "op", 403),
         ("PUT", "/line/status/m1.txt", "op", 403),
         ("PUT", "/line/status/a/b.json", "op", 403),
