@@ -101,7 +101,7 @@ def test_a_report_that_nobody_can_read_is_not_sent_again(
 
 def test_the_line_hears_of_a_report_that_is_too_long(lab: StatusLab) -> None:
     """By a short message without a time, which is faulty: an entry of its book."""
-    long = work("bad1", Designators=["C1"] * 420_000)
+    long = work("bad1", Designators=["C1"] * 180_000)
     lab.send("--put", "-", given=long)
     assert lab.send().returncode == 1
     (told,) = lab.server.said
