@@ -9,10 +9,11 @@ examples:
 
 The line's folder is in FOLDER, or in the folder for temporary files. Its desk has the pieces of
 dev/bench/run starts, and is served by the tracedesk-line next to the program, or that of LINE. A
-refused load is in its book. One sender posts a message each 20 ms, and the same one again until it is
-Accepted; it waits while the proxy would have it wait. A turn is a seal, a roll-over, and a restore
-of the file from which the new desk was begun, for which the desk is stopped, and started again. The
-table has the medians of the turns by the clock, and the longest time until a message was Accepted.
+refused load is in its book. One sender posts a message each 20 ms, and the same one again until it
+is Accepted; it waits while the proxy would have it wait. A turn is a seal, a roll-over, and a
+restore of the file from which the new desk was begun, for which the desk is stopped, and started
+again. The table has the medians of the turns by the clock, and the longest time until a message
+was Accepted.
 """
 import argparse
 import contextlib

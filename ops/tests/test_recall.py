@@ -88,7 +88,7 @@ def test_archives_stay_as_they_are(world: World, folder: pathlib.Path) -> None:
         ({"designator": "C2"}, False),
     ],
 )
-def test_a_piece_that_is_placed_twice_is_named(others: dict[str, str], is_twice: bool) -> None:
+def test_a_piece_that_is_placed_twice_is_named(others: dict[str, Any], is_twice: bool) -> None:
     piece = Piece("B1", "C1", "P", "L", "K", "M", "1", "no", 5, "L1", catalogue.RUNNING)
     assert len([*twice([piece, piece._replace(**others)])]) == is_twice
 

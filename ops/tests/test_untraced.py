@@ -1,4 +1,6 @@
-"""What is around a line's traces: tables of any text, the status of senders, and a folder of 1.0.0."""
+"""What is around a line's traces: tables of any text, the status of senders, and a folder of
+1.0.0.
+"""
 import json
 import pathlib
 import random

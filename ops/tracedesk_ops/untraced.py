@@ -47,8 +47,8 @@ class Decision(NamedTuple):
 
 
 class Noted(NamedTuple):
-    """What an entry says. `done` is the minute of its message, if that can be read, and `heard` that
-    of the desk then. `reel` and `designators` are of pieces, as the desk has them, of which a
+    """What an entry says. `done` is the minute of its message, if that can be read, and `heard`
+    that of the desk then. `reel` and `designators` are of pieces, as the desk has them, of which a
     machine names other reels.
     """
 
@@ -172,8 +172,8 @@ def is_shipped(by: Decision | None) -> bool:
 
 
 def said(it: Noted) -> list[str]:
-    """What an entry says to a reader: its id and its kind, and the columns of WORK, each of a length
-    that can be read.
+    """What an entry says to a reader: its id and its kind, and the columns of WORK, each of a
+    length that can be read.
     """
     return [
         text if len(text) <= MOST_SAID else f"{text[:MOST_SAID]} .. ({len(text):,} letters)"

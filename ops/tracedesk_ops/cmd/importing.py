@@ -111,7 +111,7 @@ def known(its: Desk, kind: str, it: imports.Made) -> str:
             card = its.reel(it.name)
             return f"the desk has it: part {card.part}, lot {card.lot}"
         body = answers.read_object(it.message.text)["MessageBody"]
-        its.kit(body["Product"], body["Machine"], 1)
+        its.report("/kit", product=body["Product"], machine=body["Machine"], boards=1)
         return "it takes the place of the desk's sheet"
     except NotThere:
         return "it is new"

@@ -193,8 +193,8 @@ def question_of(kind: str, names: Sequence[str], part: str, those: Surveyed) -> 
 
 
 def where(terms: Terms, known: Known) -> Meant:
-    """The question for the reels with these attributes. A reel whose receipt doesn't say them may be
-    one of them.
+    """The question for the reels with these attributes. A reel whose receipt doesn't say them may
+    be one of them.
     """
     faults = list(known.faults)
     those = {
