@@ -61,7 +61,7 @@ def survey(
     except (FilesFault, OSError, sqlite3.Error, copies.Changing) as fault:
         named = begun_from(there, begun_now(line.desk))
         if not line.desk.exists():  # else the newest file is asked as the desk
-            named += [file for file in lineage.tops(there, lost) if file not in named]
+            named += [file for file in lineage.tops(there, ()) if file not in named]
         rows = [row_of(file, name) for file in named]
         return Survey(rows, None, [*faults, str(fault)], running)
     if desk:
