@@ -15,6 +15,7 @@ from tracedesk_ops.recallpage.view import ShownAnswer
 ROUTES = {"hold": ("/line/holds", "Held"), "release": ("/line/releases", "Released")}
 SECONDS = 60.0  # for which a desk's answer is waited for
 ELSEWHERE = "its desk is on another computer: say it on the page there too"
+NO_BOOK = "its server keeps no book: serve it by tracedesk-line"
 
 
 def posted(line: Places, route: str, told: dict[str, str]) -> bytes:
@@ -33,9 +34,10 @@ def said_to(line: Places, asked: Asked, name: str) -> str:
     told = {verb.capitalize(): what, "Name": name, "By": by, "Reason": asked.reason}
     try:
         body = posted(line, route, told)
-        return (
-            "" if json.loads(body)["Answer"] == done else f"its desk answers {body.decode():.200}"
-        )
+        answer = json.loads(body)["Answer"]
+        if answer == "NotFound":  # the route, as of `tracedesk serve`
+            return NO_BOOK
+        return "" if answer == done else f"its desk answers {body.decode():.200}"
     except (OSError, ValueError, LookupError, TypeError, http.client.HTTPException) as fault:
         return f"its desk can't be asked: {fault}"
 
