@@ -5,7 +5,7 @@ set -u
 export PYTHONDONTWRITEBYTECODE=1
 ops="$(cd "$(dirname "$0")/../../ops" && pwd)"
 port="${PORT:?dev/cases gives one}"
-here=(--port "$port" --drained drained --stop 'kill "$(cat pid)" 2> /dev/null || true' --start 'sh ./start')
+here=(--port "$port" --stop 'kill "$(cat pid)" 2> /dev/null || true' --start 'sh ./start')
 cat > start <<END
 "$PROGRAM" serve --db desk --port $port --connections 10000 > served.txt 2>&1 < /dev/null & echo \$! > pid
 END

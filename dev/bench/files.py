@@ -42,9 +42,9 @@ ACTIONS = ("seal", "rollover", "restore")
 class Sender(threading.Thread):
     """Posts messages until the end; `waits` has how long each one took to be Accepted."""
 
-    def __init__(self, port: int, drained: pathlib.Path) -> None:
+    def __init__(self, port: int) -> None:
         super().__init__(daemon=True)
-        self.port, self.drained = port, drained
+        self.port = port
         self.waits: list[float] = []
         self.ends = threading.Event()
 
@@ -60,7 +60,7 @@ class Sender(threading.Thread):
 
     def is_accepted(self, uid: str) -> bool:
         """Whether the desk takes a message, which says nothing but the time."""
-        return not self.drained.exists() and b'"Accepted"' in self.answer(uid, "ClockSet")
+        return b'"Accepted"' in self.answer(uid, "ClockSet")
 
     def answer(self, uid: str, word: str, **body_: str) -> bytes:
         """The desk's answer, empty while it is away."""
@@ -78,7 +78,7 @@ class Line:
 
     def __init__(self, folder: pathlib.Path, tracedesk: str, port: int) -> None:
         self.folder, self.tracedesk, self.port = folder, tracedesk, port
-        self.desk, self.drained = folder / "desk", folder.with_name("drained")
+        self.desk = folder / "desk"
         self.pid, self.serve = folder.with_name("pid"), folder.with_name("serve")
         serves = plant.next_to(tracedesk, "line")
         if serves is None:
@@ -88,8 +88,8 @@ class Line:
 
     def service(self) -> list[object]:
         """The words of a tool that stops and starts the desk."""
-        words = ["--port", self.port, "--drained", self.drained, "--proxy-port", 1]
-        return [*words, "--stop", f"kill $(cat '{self.pid}')", "--start", f"sh '{self.serve}'"]
+        stop, start = f"kill $(cat '{self.pid}')", f"sh '{self.serve}'"
+        return ["--port", self.port, "--stop", stop, "--start", start]
 
     def start(self) -> None:
         subprocess.run(["sh", self.serve], check=True)
@@ -119,7 +119,7 @@ def called(words: Sequence[object]) -> None:
 
 @contextlib.contextmanager
 def sending(line: Line) -> Iterator[Sender]:
-    sender = Sender(line.port, line.drained)
+    sender = Sender(line.port)
     sender.start()
     while not sender.waits:
         time.sleep(PAUSE)

@@ -1,4 +1,4 @@
-"""The idle clock: once a minute, if the machine's clock is in sync and senders may send."""
+"""The idle clock: once a minute, if the machine's clock is in sync."""
 import json
 import pathlib
 import random
@@ -59,15 +59,6 @@ def commands(its: Watched) -> int:
     """The number of a command that is sent now."""
     told = its.site.say("ClockSet", {}, 5000, uid=f"count-{random.random()}")
     return int(told["Number"])
-
-
-def test_nothing_is_sent_while_senders_come_again(its: Watched) -> None:
-    before = commands(its)
-    its.site.drained.touch()
-    done = its.clock()
-    its.site.drained.unlink()
-    done.expect(0, "come again")
-    assert commands(its) == before + 1
 
 
 def test_a_desk_that_is_down_is_given_up(its: Watched) -> None:

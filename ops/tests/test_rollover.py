@@ -14,7 +14,8 @@ from lab.messages import part
 from lab.shifted import Shifted
 from lab.tools import started
 from lab.waits import PATIENCE
-from tracedesk_ops import catalogue, copies, sealed
+from tracedesk_ops import catalogue, copies, rollover, sealed
+from tracedesk_ops.line import LineFolder
 
 
 # --- Three roll-overs in a row
@@ -173,7 +174,7 @@ def test_a_sender_at_the_desks_own_port_goes_on_at_the_new_desk(
         with contextlib.suppress(OSError, http.client.HTTPException):
             half.post([part(names[-1], half.time)])
         time.sleep(0.05)
-    assert tool.wait() == 0 and not half.drained.exists()
+    assert tool.wait() == 0
     half.post(part(name, half.time) for name in names)
     for answer in half.post(part(name, half.time) for name in names):
         assert answer["Answer"] == "Accepted" or answer.get("Refusal") == "IdReused"
@@ -205,6 +206,14 @@ def test_service_that_somebody_had_stopped_is_left_so(half: Line) -> None:
 
 def test_service_that_a_killed_call_had_stopped_is_started(half: Line) -> None:
     half.end()
-    half.drained.touch()
+    work = LineFolder(half.folder).work
+    work.mkdir()
+    (work / rollover.STOPPED).touch()
     half.rollover("--if-due").expect()
-    assert half.answers() and not half.drained.exists()
+    assert half.answers() and not work.exists()
+
+
+def test_what_a_killed_seal_left_makes_no_roll_over(half: Line) -> None:
+    LineFolder(half.folder).work.mkdir()
+    half.rollover("--if-due").expect(0, "seconds")
+    assert not half.archive.exists() and half.answers()

@@ -2,21 +2,16 @@
 tool's stays."""
 import os
 import pathlib
-import shutil
 import subprocess
 from typing import Iterator
 
 import pytest
 
-from lab import ROOT
 from lab.line import Line
-from lab.messages import part
 from lab.programs import others_of, wrapped
 from lab.shifted import Shifted
 from lab.tools import run, started
-from lab.waits import PATIENCE, stays, wait_for
-from tracedesk_dev.ports import free_port
-from tracedesk_ops import service
+from lab.waits import PATIENCE, wait_for
 from tracedesk_ops.line import LineFolder
 
 AS_IT_WAS = "the old desk is as it was"
@@ -110,77 +105,7 @@ def test_what_a_killed_call_runs_ends_with_it(
     shifted.expect_rolled_over(half)
 
 
-# --- The proxy, and another user
-
-
-PROXY = """
-pid {folder}/nginx.pid;
-error_log /dev/null;
-events {{ }}
-http {{
-  access_log off;
-  client_body_temp_path {folder}/temp; proxy_temp_path {folder}/temp;
-  fastcgi_temp_path {folder}/temp; uwsgi_temp_path {folder}/temp; scgi_temp_path {folder}/temp;
-  server {{
-    listen 127.0.0.1:{front};
-    location / {{ if (-f {drained}) {{ return 503; }} proxy_pass http://127.0.0.1:{port}; }}
-  }}
-  server {{ listen 127.0.0.1:{count}; {counts} }}
-}}
-"""
-
-
-@pytest.fixture
-def front(half: Line, folder: pathlib.Path) -> Iterator[int]:
-    """The port of an nginx before the line, which counts requests as the packaged one does."""
-    packaged = (ROOT / "packaging/nginx.conf").read_text(encoding="utf-8")
-    (counts,) = [line for line in packaged.splitlines() if "stub_status" in line]
-    port, half.proxy_port = free_port(), free_port()
-    conf = folder / "nginx.conf"
-    text = PROXY.format(
-        folder=folder,
-        front=port,
-        drained=half.drained,
-        port=half.port,
-        count=half.proxy_port,
-        counts=counts,
-    )
-    conf.write_text(text, encoding="utf-8")
-    nginx = shutil.which("nginx", path=os.environ["PATH"] + ":/usr/sbin") or "nginx"
-    proxy = started([nginx, "-c", conf, "-g", "daemon off;"])
-    try:
-        wait_for("nginx answers", lambda: service.get(half.proxy_port, "/requests") is not None)
-        yield port
-    finally:
-        proxy.terminate()
-        proxy.communicate()
-
-
-@pytest.mark.needs("nginx")
-def test_message_whose_head_came_through_the_proxy_is_answered(
-    half: Line, shifted: Shifted, front: int
-) -> None:
-    """However late its body comes; the new desk has it, as the archive was copied before."""
-    line = part("D", half.time)
-    link = half.begin_post(line, front)
-    wait_for("the proxy counts the request", lambda: writing(half.proxy_port) > 1)
-    tool = started(half.rollover_words("--drain-seconds", PATIENCE))
-    wait_for("the flag for senders", half.drained.exists)
-    stays("the roll-over waits", lambda: tool.poll() is None, 2)
-    link.sendall(line[10:])
-    answer = link.makefile("rb").read()
-    link.close()
-    assert b'"Answer":"Accepted"' in answer
-    _, said = tool.communicate(timeout=PATIENCE)
-    assert tool.returncode == 0, said
-    shifted.expect_rolled_over(half, "D")
-    assert half.uids_of(half.file)["x-D"]
-
-
-def writing(port: int) -> int:
-    """How many requests an nginx has, this one among them."""
-    said = str(service.get(port, "/requests"))
-    return int(said.partition("Writing: ")[2].split()[0])
+# --- Another user
 
 
 USER = 61_000  # of the service

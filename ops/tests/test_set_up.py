@@ -41,16 +41,11 @@ def set_up_whole(line: Line, etc: pathlib.Path) -> Line:
     return line
 
 
-def proxy_words(line: Line) -> list[Word]:
-    return ["--drained", line.drained, "--proxy-port", line.proxy_port]
-
-
 def test_tool_of_one_of_two_lines(one: Line, two: Line) -> None:
     """Its folder, port and commands are those of its set-up file."""
     for line in (one, two):
         run_tool("ops", "seal", line.name, "--program", line.program).expect()
-        words: list[Word] = ["--program", line.program, *proxy_words(line)]
-        run_tool("ops", "rollover", line.name, *words).expect()
+        run_tool("ops", "rollover", line.name, "--program", line.program).expect()
         assert len(line.archives()) == 1
     run_tool("ops", "seal", "L3").expect(2, "there is no folder")
 
@@ -59,7 +54,6 @@ def test_watch_and_clock_of_one_of_two_lines(one: Line, two: Line) -> None:
     run_tool("watch", "--to", "-").expect(2, "say by --line")
     run_tool("watch", "--line", "L2", "--to", "-").expect(0, "\ntracedesk_up 1\n")
     words: list[Word] = ["--synced", "echo yes", "--answer", "-"]
-    words += ["--drained", two.drained]
     run_tool("clock", *words).expect(2, "say by --line")
     run_tool("clock", "--line", "L2", *words).expect(0, '"Answer":"Accepted"')
 

@@ -12,7 +12,7 @@ import pytest
 from lab.programs import auditor
 from lab.tools import Word, run_tool
 from lab.waits import wait_for
-from lab.watched import COME_AGAIN, ODD, Metrics, Watched, expect, read, watched
+from lab.watched import AWAY, ODD, Metrics, Watched, expect, read, watched
 from tracedesk_ops import sealing
 
 pytestmark = [pytest.mark.needs("nginx", "openssl"), pytest.mark.xdist_group("watch")]
@@ -57,7 +57,6 @@ def test_reports_are_those_of_the_program(its: Watched) -> None:
         its.metrics(),
         up=1,
         proxy_up=1,
-        drained=0,
         service_active=1,
         service_restarts_total=3,
         overdue_pieces=2,
@@ -83,9 +82,6 @@ def test_figures_of_the_book_are_those_of_the_line(its: Watched) -> None:
     assert its.site.asked("POST", path, "office", said)[0] == 401
     assert its.site.asked("POST", path, "op", said, Content_Type="text/csv")[0] == 415
     assert its.site.asked("POST", path, "op", said, Origin="https://elsewhere.example")[0] == 403
-    its.site.drained.touch()
-    assert its.site.asked("POST", path, "op", said)[0] == 503
-    its.site.drained.unlink()
     assert its.site.asked("POST", path, "op", said)[::2] == (200, '{"Answer":"Decided","Entry":3}')
     for path in ("state?machine=M1", "book?after=0", "undecided", "counts"):
         assert its.site.asked("GET", f"/line/{path}")[0] == 401
@@ -262,20 +258,9 @@ def test_a_guess_is_answered_after_a_second_and_locks_nobody_out(
     assert its.site.asked(method, path, user, body)[0] == status
 
 
-def test_the_health_follows_a_drain_at_once(its: Watched) -> None:
-    its.site.drained.touch()
-    try:
-        status, headers, body = its.site.asked("GET", "/health")
-        expect(its.metrics(), drained=1, up=1)
-    finally:
-        its.site.drained.unlink()
-    assert ((status, body), headers.get("Retry-After")) == (COME_AGAIN, "10")
-    assert its.health()[0] == 200
-
-
 def test_the_health_follows_the_desk(its: Watched) -> None:
     with its.desk_is_down():
-        wait_for("/health says that the desk is down", lambda: its.health() == COME_AGAIN)
+        wait_for("/health says that the desk is down", lambda: its.health() == AWAY)
     wait_for("/health says that it is back", lambda: its.health()[0] == 200)
 
 

@@ -9,7 +9,7 @@ from typing import Iterator, Optional
 import pytest
 from lab.site import WELL
 from lab.waits import wait_for
-from lab.watched import COME_AGAIN, Watched, expect, saying, watched
+from lab.watched import AWAY, Watched, expect, saying, watched
 
 pytestmark = [pytest.mark.needs("nginx", "openssl"), pytest.mark.xdist_group("watch_faults")]
 
@@ -47,7 +47,7 @@ def test_a_desk_that_hangs(its: Watched) -> None:
     its.site.pause_desk()
     try:
         found = its.metrics(timeout=2)
-        wait_for("/health says 503", lambda: its.health() == COME_AGAIN)
+        wait_for("/health says 503", lambda: its.health() == AWAY)
     finally:
         its.site.resume_desk()
     expect(found, up=0, proxy_up=1, watch_source_up__reports=0)

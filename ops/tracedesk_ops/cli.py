@@ -121,7 +121,7 @@ def roll_over(asked: argparse.Namespace) -> int:
     """Rolls the desk over, or says whether it is time."""
     line: LineFolder = asked.line
     asked.db = line.desk
-    is_cut_off = line.work.exists() or asked.drained.exists()
+    is_cut_off = (line.work / rollover.STOPPED).exists()
     if asked.due or asked.if_due:
         its = rollover.due(line.desk, asked.pieces)
         plant.write_out(f"{its.words}\n")

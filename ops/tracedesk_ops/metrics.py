@@ -10,7 +10,6 @@ METRICS = f"""\
 tracedesk_up gauge 1 where the desk answered a GET on its port in the time given, else 0.
 tracedesk_get_seconds gauge Seconds of that GET, with its wait behind other requests. None where it had no answer.
 tracedesk_proxy_up gauge 1 where nginx answered /health over TLS, whatever it said, else 0.
-tracedesk_drained gauge 1 while senders are told to come again, for a roll-over, else 0.
 tracedesk_service_active gauge 1 where systemd calls the service active, also while it reads its file, else 0.
 tracedesk_service_restarts_total counter How often systemd started the service again by itself (NRestarts).
 tracedesk_overdue_pieces gauge Pieces that were placed past their floor life: rows of the report /overdue.

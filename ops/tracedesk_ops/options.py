@@ -12,8 +12,6 @@ from tracedesk_ops import catalogue, model, places
 from tracedesk_ops.plant import Fault
 
 SET_UP = places.FOLDER
-PROXY_PORT = 8081  # packaging/nginx.conf
-DRAINED = pathlib.Path("/run/tracedesk-drained")  # packaging/nginx.conf looks for it
 
 
 def offer_program(reader: argparse.ArgumentParser) -> None:
@@ -83,27 +81,6 @@ def offer_service(reader: argparse.ArgumentParser) -> None:
     for word in ("stop", "start"):
         about = f"{word}s the service (by systemctl, the unit of the line)"
         reader.add_argument(f"--{word}", metavar="COMMAND", help=about)
-    reader.add_argument(
-        "--drained",
-        type=pathlib.Path,
-        default=DRAINED,
-        metavar="FILE",
-        help=f"the proxy sends senders away while it is there ({DRAINED})",
-    )
-    reader.add_argument(
-        "--drain-seconds",
-        type=float,
-        default=30,
-        metavar="N",
-        help="how long the last answers may take (30)",
-    )
-    reader.add_argument(
-        "--proxy-port",
-        type=int,
-        default=PROXY_PORT,
-        metavar="N",
-        help=f"where the proxy counts its requests for this machine ({PROXY_PORT})",
-    )
 
 
 def line_name(text: str) -> str:

@@ -27,7 +27,9 @@ Path = pathlib.Path
 DUE_PIECES = 1_000_000  # docs/operations-daily.md, "The file grows"
 FULL = 0.9  # of the greatest number of commands
 ROOM = 4.2  # times the desk: the sealed file, a copy of it, a desk as large, and the old one's end
-BEGUN = "begun"  # in the unfinished work: the digits of the file that the new desk was begun from
+# in the unfinished work: the digits of the file that the new desk was begun from, and that the
+# service was stopped
+BEGUN, STOPPED = "begun", "stopped"
 SECONDS_FOR_BOARDS = 60.0  # for which a moment is waited for that has no board in work
 PAUSE = 0.5
 SIZES = """SELECT (SELECT count(*) FROM accepted), greatest,
@@ -58,9 +60,6 @@ class NewDesk(Protocol):
 
 class Stops(Protocol):
     """The desk's service: service.py."""
-
-    def drain(self) -> None:
-        ...
 
     def stop(self) -> None:
         ...
@@ -163,10 +162,10 @@ def roll_over(
                 plant.tell(f"all of it is done while the service is stopped: {why}")
             else:
                 new = begun_from(line, successor(work, True), file)
-                with stopped(service, pieces_of(file.path)):
+                with stopped(service, work, pieces_of(file.path)):
                     put_in_place(line, work, new, file)
                 return file
-        with stopped(service, 0):
+        with stopped(service, work, 0):
             file = waited_for(made, work, 0)
             put_in_place(line, work, begun_from(line, successor(work, False), file), file)
         return file
@@ -181,10 +180,10 @@ def begun_from(line: LineFolder, new: NewDesk, file: Sealed) -> NewDesk:
 
 
 @contextlib.contextmanager
-def stopped(service: Stops, pieces: int) -> Iterator[None]:
+def stopped(service: Stops, work: Path, pieces: int) -> Iterator[None]:
     """Stops the service meanwhile; it is started again whatever happens."""
     try:
-        service.drain()
+        (work / STOPPED).touch()
         service.stop()
         yield
     finally:

@@ -116,7 +116,6 @@ class Site:
         )  # what an operator looks at before the browser is closed
         self.agreed = 0
         self.looks = 0  # at how many connections the desk has served
-        self.drained = self.room / "drained"
         for it in (
             "etc/station",
             "share",
@@ -185,7 +184,6 @@ class Site:
             ("/usr/share/tracedesk", self.room / "share"),
             ("/var/lib/nginx/tracedesk-station", self.room / "cache"),
             ("/var/lib/tracedesk", self.room / "line"),
-            ("/run/tracedesk-drained", self.drained),
             ("/var/log/nginx", self.room / "log"),
             ("listen 443 ssl", f"listen 127.0.0.1:{self.port} ssl"),
             ("127.0.0.1:8080", f"127.0.0.1:{self.desk_port}"),

@@ -112,7 +112,6 @@ def test_a_desk_that_is_stopped_for_a_copy(site: Site) -> None:
         it.ready()
         it.does("S/M1/1", "K-1")
         line_is_as_reported(site, it)
-        site.drained.touch()
         site.kill_desk()
         wait_for("the page says that it is old", lambda: "OLD" in it.text("state"))
         rows, (status, headers, _) = it.rows(), wait_for(
@@ -132,7 +131,6 @@ def test_a_desk_that_is_stopped_for_a_copy(site: Site) -> None:
         it.scan("S/M1/1", "A/UNLOAD")
         it.verdict(("asked",))
         site.start_desk()
-        site.drained.unlink()
         it.verdict(("accepted",), 60)
         it.ready()
         whole(site, it, 2)

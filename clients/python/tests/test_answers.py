@@ -75,7 +75,7 @@ def test_statuses() -> None:
         (202, b'{"Answer":"Ignored","MessageName":"x"}', Meaning.ANSWER),
         (502, b"", Meaning.AGAIN),
         (503, b'{"Answer":"Unavailable"}', Meaning.AGAIN),
-        (503, b'{"Answer":"Proxy","Fault":"ComeAgain"}', Meaning.AGAIN),
+        (502, b'{"Answer":"Proxy","Fault":"NoAnswer"}', Meaning.AGAIN),
         (504, b"", Meaning.AGAIN),
         (500, b"", Meaning.AGAIN),
         (599, b"", Meaning.AGAIN),

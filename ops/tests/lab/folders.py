@@ -103,16 +103,13 @@ class Senders:
         self.line, self.said, self.is_running, self.have_said = line, said, True, False
         self.notes = notes
 
-    def drain(self) -> None:
-        self.have_said = True
+    def stop(self) -> None:
+        self.is_running, self.have_said = False, True
         with files.opened(self.line.desk) as database:
             for said in self.said:
                 database.execute(ACCEPT, said)
         for uid in self.notes:
             note(self.line, uid)
-
-    def stop(self) -> None:
-        self.is_running = False
 
     def start(self, pieces: int = 0) -> float:
         """A tool that was killed starts nothing."""

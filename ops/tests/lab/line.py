@@ -9,7 +9,6 @@ from lab import messages
 from lab.desk import Desk, rows_of
 from lab.programs import others_of
 from lab.tools import Ended, Word, run, run_tool, tool
-from lab.waits import PATIENCE
 from tracedesk_ops import around, catalogue, lineage, sealed
 from tracedesk_ops.line import LineFolder
 
@@ -31,7 +30,6 @@ class Line(Desk):
         super().__init__(program, folder / desk, port)
         self.folder, self.name = folder, name
         self.archive = folder / "sealed"
-        self.drained, self.proxy_port = folder / "drained", 1  # nothing answers on port 1
 
     # --- The tools
 
@@ -40,8 +38,6 @@ class Line(Desk):
         return [
             *("--program", program or self.program, "--port", self.port),
             *("--stop", self.stop_command, "--start", self.start_script),
-            *("--drained", self.drained, "--drain-seconds", PATIENCE),
-            *("--proxy-port", self.proxy_port),
         ]
 
     def ops(self, name: str, *more: Word) -> list[Word]:

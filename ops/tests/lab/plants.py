@@ -66,7 +66,7 @@ class WorkedLine(Line):
         day = calendar.timegm((2026, 3, number, 6, 0, 0))
         os.utime(max(self.archive.glob("*.desk"), key=os.path.getmtime), (day, day))
         mirror = self.mirrors / f"{number}/{self.name}"
-        shutil.copytree(self.folder, mirror, ignore=shutil.ignore_patterns("desk*", "drained"))
+        shutil.copytree(self.folder, mirror, ignore=shutil.ignore_patterns("desk*"))
         return mirror
 
     def kept(self) -> list[pathlib.Path]:

@@ -17,7 +17,7 @@ from tracedesk_ops.line import LineFolder
 ODD = 'M "3" \\'  # a machine's name
 SAMPLE = re.compile(r"tracedesk_(\w+)(?:\{(.*)\})? (\S+)")
 VALUE = re.compile(r'"((?:[^"\\\n]|\\["\\n])*)"')
-COME_AGAIN = (503, '{"Answer":"Proxy","Fault":"ComeAgain"}')  # of nginx, for a desk that is away
+AWAY = (503, '{"Answer":"Proxy","Fault":"NoAnswer"}')  # of nginx, for a desk that is away
 
 Metrics = dict[
     str, float
@@ -100,7 +100,6 @@ class Watched:
             "line": self.room,
             "setup": self.room / "etc/station/setup.json",
             "clock": self.answer,
-            "drained": site.drained,
             "timeout": PATIENCE,
         }
 
@@ -126,7 +125,6 @@ class Watched:
             "url": f"http://127.0.0.1:{self.site.desk_port}",
             "synced": synced,
             "answer": self.answer,
-            "drained": self.site.drained,
             "patience": PATIENCE,
             **changed,
         }

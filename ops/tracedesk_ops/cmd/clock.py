@@ -1,8 +1,7 @@
 """Tells a desk the time, by one ClockSet: for a line that is idle, while no message moves its
 minute.
 
-usage: tracedesk-clock [--url URL] [--synced COMMAND] [--answer FILE] [--drained FILE]
-                       [--patience SECONDS]
+usage: tracedesk-clock [--url URL] [--synced COMMAND] [--answer FILE] [--patience SECONDS]
 
 examples:
   tracedesk-clock                    tracedesk-clock.timer has it done each five minutes, while the
@@ -15,11 +14,9 @@ examples:
 Nothing is sent unless the command of --synced prints yes: the desk takes the time from the message,
 and never goes back. The message is of this minute, and so is its UniqueID: sent twice within a
 minute it acts once. A desk that isn't there is no loss, since the next message has the time too.
-During a roll-over, when senders must come again, nothing is sent.
 
-Exit status: 0 accepted, or senders must come again; 1 not accepted, or there was no answer; 2 bad
-command line; 3 nothing was sent, since this machine's clock is not in sync; 9 an unexpected
-failure.
+Exit status: 0 accepted; 1 not accepted, or there was no answer; 2 bad command line; 3 nothing was
+sent, since this machine's clock is not in sync; 9 an unexpected failure.
 """
 from __future__ import annotations
 
@@ -99,13 +96,6 @@ def words() -> argparse.Namespace:
         help=f"where the answer is put, or - ({ANSWER})",
     )
     reader.add_argument(
-        "--drained",
-        type=pathlib.Path,
-        default=options.DRAINED,
-        metavar="FILE",
-        help=f"nothing is sent while it is there ({options.DRAINED})",
-    )
-    reader.add_argument(
         "--patience", type=float, default=60, metavar="SECONDS", help="for the answer (60)"
     )
     options.set_up(reader)
@@ -117,9 +107,6 @@ def words() -> argparse.Namespace:
 
 def main() -> int:
     asked = words()
-    if asked.drained.exists():
-        plant.tell("senders are told to come again: nothing is sent")
-        return 0
     if not is_synced(asked.synced):
         return 3
     answer = sent(asked, message())

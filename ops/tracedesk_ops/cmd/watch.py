@@ -2,7 +2,7 @@
 all.
 
 usage: tracedesk-watch [--to FILE] [--port N] [--health URL] [--unit NAME] [--setup FILE]
-                       [--line LINE] [--clock FILE] [--drained FILE] [--timeout SECONDS]
+                       [--line LINE] [--clock FILE] [--timeout SECONDS]
        tracedesk-watch --list
 
 examples:
@@ -138,7 +138,6 @@ class Watch:
         yield "up", int(self.is_up), {}
         proxy_is_up = yield from self.tried("nginx", self.proxy())
         yield "proxy_up", int(proxy_is_up), {}
-        yield "drained", int(self.asked.drained.exists()), {}
         for name, source in (
             ("reports", self.reports),
             ("book", self.book),
@@ -302,7 +301,6 @@ def offer_places(reader: argparse.ArgumentParser) -> None:
     for name, default, what in (
         ("setup", SETUP, "the machines"),
         ("clock", CLOCK, "the idle clock's last answer"),
-        ("drained", options.DRAINED, "senders are sent away while it is there"),
     ):
         reader.add_argument(
             f"--{name}",
