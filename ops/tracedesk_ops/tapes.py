@@ -29,7 +29,7 @@ from typing import Any, NamedTuple
 from tracedesk_ops import catalogue, copies, sealed, untraced
 from tracedesk_ops.firstlook import Question
 
-LOADED, SPLICED, UNLOADED = untraced.HANDLING
+LOADED, SPLICED = untraced.HANDLING[:2]
 INSTALLED, SCRAPPED = "MaterialsInstalled", "MaterialsScrapped"
 WORDS = (*untraced.HANDLING, INSTALLED, SCRAPPED)
 COMMANDS = f"""SELECT number, own, effective,

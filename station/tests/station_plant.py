@@ -147,7 +147,6 @@ def asks(operator: Operator, question: str, name: str, detail: str = "1") -> Any
     return operator.rows()
 
 
-DAY = 86_400_000  # milliseconds
 SIZES = [(800, 480), (1024, 600), (1280, 800), (1920, 1080), (800, 1280)]
 DISK = """window.stores = []; window.failing = { put: 0, add: 0 };
 const open = IDBFactory.prototype.open;

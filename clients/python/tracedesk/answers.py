@@ -9,7 +9,7 @@ import email.utils
 import enum
 import json
 import time
-from typing import Any, Dict, List, Optional, Tuple, Union
+from typing import Any, Dict, Optional, Tuple, Union
 
 from . import words
 
@@ -113,16 +113,6 @@ def read_object(text: bytes) -> Dict[str, Any]:
     except (ValueError, RecursionError):
         return {}
     return told if isinstance(told, dict) else {}
-
-
-def read_list(text: bytes) -> Optional[List[Dict[str, Any]]]:
-    """A JSON list of objects; none where the text is none."""
-    try:
-        told = json.loads(text)
-    except (ValueError, RecursionError):
-        return None
-    is_list = isinstance(told, list) and all(isinstance(it, dict) for it in told)
-    return told if is_list else None
 
 
 def read(text: bytes, archived: bool = False) -> Optional[Answer]:

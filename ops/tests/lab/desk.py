@@ -5,7 +5,6 @@ import json
 import os
 import pathlib
 import signal
-import socket
 import sqlite3
 from typing import Any, Iterable, Iterator, Optional, Sequence
 
@@ -133,14 +132,6 @@ class Desk:
         return contextlib.closing(
             http.client.HTTPConnection("127.0.0.1", self.port, timeout=PATIENCE)
         )
-
-    def begin_post(self, line: bytes, port: int = 0) -> socket.socket:
-        """A connection over which a part of a message has been sent, with the end of it to come
-        after 10 bytes."""
-        link = socket.create_connection(("127.0.0.1", port or self.port), PATIENCE)
-        head = f"POST /messages HTTP/1.1\r\nHost: desk\r\nContent-Length: {len(line)}\r\n"
-        link.sendall(f"{head}Connection: close\r\n\r\n".encode() + line[:10])
-        return link
 
     # --- What it says
 

@@ -15,12 +15,3 @@ def wait_for(what: str, holds: Callable[[], T], patience: float = PATIENCE) -> T
         assert time.monotonic() < end, f"after {patience:.0f} seconds: not {what}"
         time.sleep(PAUSE)
     return found
-
-
-def stays(what: str, holds: Callable[[], object], seconds: float) -> None:
-    """Looks for this time whether something goes on. A busy machine makes it less sharp, and never
-    wrong."""
-    end = time.monotonic() + seconds
-    while time.monotonic() < end:
-        assert holds(), f"no more: {what}"
-        time.sleep(PAUSE)
