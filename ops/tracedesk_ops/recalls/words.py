@@ -89,7 +89,11 @@ def want_sense(words: argparse.Namespace) -> None:
 
 def lines_of(words: argparse.Namespace) -> list[Line]:
     """The lines that are asked: those of the command line, else those of the set-up files."""
-    lines = [line_of(name, str(folder)) for name, folder in words.line or places.folders()]
+    try:
+        those = words.line or places.folders()
+    except places.NotSetUp as fault:
+        stop(str(fault))
+    lines = [line_of(name, str(folder)) for name, folder in those]
     for named in ([it.name for it in lines], [str(it.folder) for it in lines]):
         for it in named:
             if named.count(it) > 1:
