@@ -111,7 +111,8 @@ def test_a_server_without_a_book_holds_nothing(
 ) -> None:
     """As `tracedesk serve`, which has none of a line's routes."""
     plain = Desk(program, tmp_path / "plain/desk")
-    plain.start_script.write_text(START.format(program=program, file=plain.file, port=plain.port))
+    port = f"{plain.port} --connections 100"
+    plain.start_script.write_text(START.format(program=program, file=plain.file, port=port))
     plain.serve()
     (tmp_path / "etc/L2.conf").write_text(f"line = L2\ndb = /srv/L2/desk\nport = {plain.port}\n")
     try:

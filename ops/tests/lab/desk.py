@@ -64,7 +64,14 @@ class Desk:
         self.wait_until_ready()
 
     def wait_until_ready(self) -> None:
-        wait_for(f"an answer on port {self.port}", self.answers)
+        wait_for(f"an answer on port {self.port}", self.answers_or_ended)
+
+    def answers_or_ended(self) -> bool:
+        """Whether it answers; a service that has ended never will."""
+        has_ended = processes.has_ended(int(self.pid_file.read_text()))
+        if (answers := self.answers()) or not has_ended:
+            return answers
+        raise AssertionError(f"the service has ended: {self.start_script.read_text()}")
 
     def answers(self) -> bool:
         try:
