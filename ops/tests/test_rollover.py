@@ -207,7 +207,8 @@ def test_service_that_somebody_had_stopped_is_left_so(half: Line) -> None:
 def test_service_that_a_killed_call_had_stopped_is_started(half: Line) -> None:
     half.end()
     work = LineFolder(half.folder).work
-    work.mkdir()
+    for path in (half.archive, work):
+        path.mkdir()
     (work / rollover.STOPPED).touch()
     half.rollover("--if-due").expect()
     assert half.answers() and not work.exists()
