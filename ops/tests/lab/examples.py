@@ -14,6 +14,7 @@ BRIDGE = ROOT / "examples/bridge/tracedesk-bridge"
 TOOLS = {path.name: path for path in (*sorted(OPS.glob("tracedesk-*")), SENDER, BRIDGE)}
 OF_LINES = "tracedesk-ops"
 OPERATORS = re.compile(r"[|&;]+")
+SETTING = re.compile(r"[A-Z_]+=")
 
 
 class Example(NamedTuple):
@@ -48,7 +49,9 @@ def examples_in(tool: str, text: str) -> Iterator[Example]:
 
 
 def calls_in(example: Example) -> Iterator[list[str]]:
-    """The calls of tools in an example, without what redirects them."""
+    """The calls of tools in an example, without what redirects them, or is set before them in the
+    environment.
+    """
     lexer = shlex.shlex(example.text, posix=True, punctuation_chars=True)
     lexer.whitespace_split = True
     call: list[str] = []
@@ -58,7 +61,7 @@ def calls_in(example: Example) -> Iterator[list[str]]:
                 ends = [number for number, word in enumerate(call) if word in ("<", ">")]
                 yield call[: ends[0]] if ends else call
             call = []
-        else:
+        elif call or not SETTING.match(word):
             call.append(word)
 
 
