@@ -48,7 +48,8 @@ def test_a_customer_gets_their_serials_alone(line: Line, folder: pathlib.Path) -
         assert "SN-2" not in text and "SN-4" not in text and "Customer B" not in text, file
         assert str(line.folder) not in text and "127.0.0.1" not in text, file
     words: list[Word] = [folder / "to", "--signers", signers_of(key), "--archives", line.archive]
-    run_tool("verify", *words).expect(0, "the answer comes again", "Complete: of your 2")
+    said = ("the answer comes again", "lot 240131, for Customer A, asked at", "Complete: of your 2")
+    run_tool("verify", *words).expect(0, *said)
 
 
 def test_a_serial_that_holds_a_piece_is_not_said_to_hold_none(
@@ -72,11 +73,12 @@ def test_a_certificate_for_a_customer_names_nothing_of_others() -> None:
     says = "L1: L1-2: differs board SN-2 in work old"
     its = {"folder": "/srv/L1", "archives": [{"file": "L1-2", "why": says}]}
     told: dict[str, Any] = {
+        "title": "lot L-77",
         "reasons": ["/srv/L1: 2 commands of W1 anna are in /srv/L1/lost/x.desk", says],
         "notes": [f"{says}: as by a roll-over"],
         "lines": [its],
     }
-    customers.hide(told)
+    customers.hide(told, "Customer A")
     assert not [word for word in ("SN-2", "anna", "srv") if word in str(told)]
     assert told["reasons"] == [customers.SAID_TO_THE_PLANT]
 

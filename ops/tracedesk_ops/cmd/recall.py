@@ -163,7 +163,7 @@ def write(
         return
     told = certificate(recall, tables, sentence)
     if asks.customer:
-        customers.hide(told)
+        customers.hide(told, asks.customer)
     its = contents(told, tables, recall.question)
     if asks.shipped and not asks.customer:
         its["shipped.csv"] = read_once(asks.shipped)

@@ -85,10 +85,12 @@ def sentence(recall: Recall, serials: Table) -> str:
     return f"{', '.join(texts)}."
 
 
-def hide(told: dict[str, Any]) -> None:
+def hide(told: dict[str, Any], customer: str) -> None:
     """Takes out of a certificate what a customer may not see: folders, senders and people of the
     plant, and boards of others, as where two files differ. It has the checksums of the files alone.
+    Its title names the customer.
     """
+    told["title"] += f", for {customer}"
     told["notes"] = []
     told["reasons"] = told["reasons"] and [SAID_TO_THE_PLANT]
     for line in told["lines"]:
