@@ -1,6 +1,7 @@
 """Recalls of young lines."""
 import pathlib
 import shutil
+import time
 from typing import Iterator
 
 import pytest
@@ -12,6 +13,7 @@ from lab.tools import Word, run_tool
 from lab.world import RUNNING, ArchivedLine
 from tracedesk_dev import shift
 from tracedesk_ops import catalogue
+from tracedesk_ops.recalls.surveyed import Surveyed
 
 pytestmark = [pytest.mark.xdist_group("recall_lines")]
 
@@ -110,6 +112,11 @@ def test_a_mirror_is_complete_until_its_newest_file_ends(
     later = catalogue.spelled(catalogue.minute_of(until) + 1)
     recall(*words, later).expect(3, "pull a newer mirror")
     recall(*words, "yesterday").expect(2)
+
+
+def test_no_answer_is_as_of_a_time_to_come(folder: pathlib.Path) -> None:
+    """A mirror's desk may be ahead of the others."""
+    assert (Surveyed([], folder, 1 << 40).as_of or 0) <= time.time() / 60
 
 
 def test_a_folder_that_may_not_be_mounted_is_named(young: Young) -> None:

@@ -32,7 +32,8 @@ class Surveyed:
         self.mirrors: dict[Line, catalogue.Archive | None] = {}  # with the newest file of each
         for line in lines:
             self.survey(line)
-        self.as_of = self.end_of_mirrors() if isinstance(as_of, str) else as_of
+        end = self.end_of_mirrors() if isinstance(as_of, str) else as_of
+        self.as_of = None if end is None else min(end, self.now)  # a desk may be ahead
         for line, newest in self.mirrors.items():
             self.without_desk(line, newest)
 
@@ -69,11 +70,15 @@ class Surveyed:
         if not survey.archives:
             self.notes.append(f"{line.name}: no archives yet in {line.folder}")
 
+    @property
+    def now(self) -> int:
+        """The minute of the question."""
+        return int(self.minute.timestamp()) // 60
+
     def end_of_mirrors(self) -> int | None:
         """The minute until which all mirrors go that aren't too old."""
-        least = int(self.minute.timestamp()) // 60 - OLDEST
         ends = [newest.last_minute for newest in self.mirrors.values() if newest]
-        return min((end for end in ends if end >= least), default=None)
+        return min((end for end in ends if end >= self.now - OLDEST), default=None)
 
     def without_desk(self, line: Line, newest: catalogue.Archive | None) -> None:
         """Takes that a line has no desk here. Its newest sealed file may go far enough: a desk's
