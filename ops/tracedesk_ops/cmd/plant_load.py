@@ -23,8 +23,7 @@ or is set up here, is in that table.
 It needs Debian's package python3-psycopg, and the packages tracedesk and tracedesk-plant.
 
 --line     the name of the line, if it isn't that of its folder or of its set-up file
---program  tracedesk, next to which is tracedesk-chain; else PROGRAM in the environment, or
-           tracedesk on the path
+--program  tracedesk, next to which is tracedesk-chain
 
 Exit status: 0 all of it is loaded; 1 a line was refused, or PostgreSQL failed; 2 bad command line,
 or no psycopg; 9 an unexpected failure.
@@ -32,7 +31,6 @@ or no psycopg; 9 an unexpected failure.
 from __future__ import annotations
 
 import argparse
-import os
 import pathlib
 
 from tracedesk_ops import loading, options, places, plant, reader_of
@@ -52,7 +50,7 @@ def parse() -> tuple[str, list[tuple[str, pathlib.Path]]]:
     """The program, and the lines with their folders."""
     reader = reader_of(__doc__)
     reader.add_argument("--line", type=options.line_name, metavar="NAME")
-    reader.add_argument("--program", default=os.environ.get("PROGRAM", "tracedesk"))
+    options.offer_program(reader)
     reader.add_argument("paths", nargs="*", type=pathlib.Path, metavar="FOLDER")
     words = reader.parse_args()
     if not loading.ERRORS:

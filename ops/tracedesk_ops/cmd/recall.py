@@ -21,7 +21,7 @@ examples:
 tracedesk-chain reads the sealed files of a line, and a copy of its desk as it is now; copies of all
 of them lie in TMPDIR meanwhile. If they are no chain, as when a file is missing, it reads each by
 itself. Standard error says what could not be asked, and why: then the answer may lack boards.
-tracedesk-chain is the one next to tracedesk, or that of CHAIN in the environment.
+tracedesk-chain is the one next to the program, or that of CHAIN in the environment.
 
 A lot is only its name: --part PART leaves out other parts that came in a lot of that name. A reel
 that changed lines is followed under its other names. ATTRIBUTE is reel, part, lot, date_code,

@@ -16,8 +16,7 @@ Standard error names the question, its time and lines, and whether the answer is
                    AAAA..`, which the plant gives you by another way than with the evidence
 --signer NAME      whose signature it must be, if FILE has several names
 --archives FOLDER  where archives of the certificate are; may be given several times
---program FILE     tracedesk, next to which is tracedesk-chain; else PROGRAM in the environment, or
-                   tracedesk on the path
+--program FILE     tracedesk, next to which is tracedesk-chain
 
 Without our tools: ssh-keygen -Y verify -f FILE -I plant -n tracedesk-recall -s SHA256SUMS.sig <
 SHA256SUMS
@@ -29,11 +28,10 @@ doesn't come again; 2 bad command line; 3 tracedesk-chain gives no answer; 9 an 
 from __future__ import annotations
 
 import argparse
-import os
 import pathlib
 import sys
 
-from tracedesk_ops import chains, files, plant, reader_of
+from tracedesk_ops import chains, files, options, plant, reader_of
 from tracedesk_ops.recalls import verifying
 
 GENUINE, REFUSED, NOT_KNOWN = 0, 1, 3
@@ -47,7 +45,7 @@ def parse() -> argparse.Namespace:
     reader.add_argument(
         "--archives", type=pathlib.Path, action="append", default=[], metavar="FOLDER"
     )
-    reader.add_argument("--program", default=os.environ.get("PROGRAM", "tracedesk"))
+    options.offer_program(reader)
     words = reader.parse_args()
     for folder in (words.folder, *words.archives):
         if not folder.is_dir():

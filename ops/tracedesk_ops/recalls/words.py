@@ -43,14 +43,7 @@ def parse(text: str | None) -> argparse.Namespace:
     ):
         parser.add_argument(f"--{option}", type=pathlib.Path, metavar=metavar)
     parser.add_argument("--customer", metavar="NAME")
-    parser.add_argument(
-        "--program",
-        default=os.environ.get("PROGRAM", "tracedesk"),
-        help=(
-            "the program whose version is recorded; else PROGRAM in the environment, or tracedesk"
-            " on the path"
-        ),
-    )
+    options.offer_program(parser)
     words = parser.parse_args()
     want_sense(words)
     return words
