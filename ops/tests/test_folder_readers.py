@@ -44,6 +44,17 @@ def test_an_archive_that_is_missing_is_named_and_the_others_are_asked(line: Line
     assert any(f"{first.file} is missing" in fault for fault in found.faults)
 
 
+def test_a_file_before_a_gap_is_asked(line: LineFolder, folder: Path) -> None:
+    """No file that is there was begun from it, and the running desk doesn't have it."""
+    rolled_over(line)
+    first, second = survey(line).archives
+    for path in {*line.sealed.iterdir()} - {line.sealed / first.file}:
+        path.unlink()
+    found = around.survey(line, line.name, room=folder)
+    assert [file.file for file in found.archives] == [first.file]
+    assert any(f"{second.file} is missing" in fault for fault in found.faults)
+
+
 def test_without_a_desk_the_newest_file_stands_for_it(line: LineFolder) -> None:
     """A mirror has no desk."""
     files.accept(line.desk, ["c"])

@@ -96,12 +96,17 @@ def archives_of(line: ArchivedLine, folder: pathlib.Path, order: str) -> list[Wo
 
 
 @pytest.mark.parametrize("name", GAPS)
-def test_a_gap_in_the_chain_is_named(world: World, folder: pathlib.Path, name: str) -> None:
+def test_a_gap_in_the_chain_is_named(
+    world: World, folder: pathlib.Path, files: set[str], name: str
+) -> None:
+    """All files are asked that are there, also those before it."""
     order, missing = GAPS[name]
-    words = archives_of(world.first, folder / "L1", order)
+    words = [*archives_of(world.first, folder / "L1", order), "--show", "pieces"]
     before = sorted((folder / "L1/sealed").iterdir())
-    said = f"{world.first.archived[missing - 1].name} is missing, from which"
-    recall("lot", lot_of(world), *words).expect(3, said, "NOT COMPLETE")
+    lacking = world.first.archived[missing - 1].name
+    done = recall("lot", lot_of(world), *words)
+    done.expect(3, f"{lacking} is missing, from which", "NOT COMPLETE")
+    assert files_of(table(done.out)) >= files - {lacking}
     assert sorted((folder / "L1/sealed").iterdir()) == before
 
 

@@ -46,6 +46,7 @@ def survey(
     """
     faults: list[str] = []
     running: Archive | None = None
+    desk: Sealed | None = None
     there, lost = (
         lineage.read_all(folder, faults, read) if folder.is_dir() else []
         for folder in (line.sealed, line.lost)
@@ -59,10 +60,11 @@ def survey(
             copies_of = [file for file in there if desk and lineage.is_held(file, desk)]
             last = max(copies_of, key=lambda file: file.rows, default=None)
     except (FilesFault, OSError, sqlite3.Error, copies.Changing) as fault:
-        named = begun_from(there, begun_now(line.desk))
-        if not line.desk.exists():  # else the newest file is asked as the desk
-            named += [file for file in lineage.tops(there, ()) if file not in named]
-        rows = [row_of(file, name) for file in named]
+        now = [desk] if desk and room else []
+        # what the desk has is asked with it
+        tops = lineage.tops(there, now) if now or not line.desk.exists() else []
+        rows = [row_of(file, name) for file in begun_from(there, begun_now(line.desk), tops)]
+        rows.sort(key=lambda row: row.last_minute)  # over a gap time alone has an order
         return Survey(rows, None, [*faults, str(fault)], running)
     if desk:
         members.pop()
@@ -85,12 +87,14 @@ def history(desk: Sealed | None, there: list[Sealed], lost: list[Sealed]) -> lis
     return lineage.behind(desk, by_digits)
 
 
-def begun_from(there: Sequence[Sealed], digits: str = "") -> list[Sealed]:
-    """The files from which a desk was begun, each behind that of its own beginning: they are asked
-    also if one is missing. `digits` are of a further one.
+def begun_from(
+    there: Sequence[Sealed], digits: str = "", tops: Sequence[Sealed] = ()
+) -> list[Sealed]:
+    """The files from which a desk was begun and those that no other continues, each behind that of
+    its own beginning: they are asked also if one is missing. `digits` are of a further one.
     """
     begun = {file.begun for file in there} | {digits}
-    waiting = [file for file in there if file.digits in begun]
+    waiting = [file for file in there if file.digits in begun or file in tops]
     found: list[Sealed] = []
     while waiting:
         left = {file.digits for file in waiting}
