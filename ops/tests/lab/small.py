@@ -3,7 +3,7 @@ archive.
 """
 from __future__ import annotations
 
-from typing import Any, Iterator
+from typing import Any, Iterator, Mapping
 
 from lab import messages
 from lab.line import Line
@@ -21,7 +21,8 @@ def say(word: str, uid: str, **body: Any) -> bytes:
     return messages.message(word, uid, messages.MORNING, **body)
 
 
-def set_up() -> Iterator[bytes]:
+def set_up(codes: Mapping[str, str] | None = None) -> Iterator[bytes]:
+    """Parts, sheets and reels, these of which have date codes."""
     for part, (machine, designator) in MACHINES.items():
         row = {"Slot": "1", "PartNumber": part, "Designators": [designator]}
         yield say("PartDefined", f"part-{part}", PartNumber=part)
@@ -29,12 +30,12 @@ def set_up() -> Iterator[bytes]:
         yield say("SheetDefined", f"sheet-{part}", Rows=[row], **body)
         yield say("ProductSelected", f"product-{part}", **body)
     for reel, (part, lot) in REELS.items():
-        yield received(reel, part, lot)
+        yield received(reel, part, lot, **({"DateCode": codes[reel]} if codes else {}))
 
 
-def received(reel: str, part: str, lot: str) -> bytes:
+def received(reel: str, part: str, lot: str, **more: str) -> bytes:
     its = {"Reel": reel, "PartNumber": part, "Lot": lot, "Level": "1", "Quantity": 9}
-    return say("ReelReceived", f"received-{reel}", **its)
+    return say("ReelReceived", f"received-{reel}", **its, **more)
 
 
 def board(reel: str, name: str, part: str = "", uid: str = "") -> Iterator[bytes]:
