@@ -192,7 +192,7 @@ class Batch:
                 looked.machine = run.name
                 if number == 0:
                     self.ask_the_tool(run)
-                faults = wrong(run, self.answer_of)
+                faults = [*wrong(run, self.answer_of)]
                 if faults:
                     self.show(run, looked.told)
                 self.faults += [f"run {number}: {fault}" for fault in faults]
@@ -289,7 +289,8 @@ class LookedOnce:
     def __call__(self, folder: Any, archives: Any, *_: Any) -> Any:
         if self.told is None:
             self.told = self.look(folder, archives, self.all)
-            self.works = by_machine(self.told.works, lambda work: work[0].entry.machine)
+            # an entry that nobody could read has its machine in its message alone
+            self.works = by_machine(self.told.works, lambda work: doubts.work_of(work[0]).machine)
             self.pieces = by_machine(self.told.pieces, lambda piece: piece.machine)
         works, pieces = self.works[self.machine], self.pieces[self.machine]
         return self.told._replace(works=works, pieces=pieces)
