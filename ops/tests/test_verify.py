@@ -203,6 +203,26 @@ def test_each_flipped_bit_is_refused(plant: Plant, seed: int) -> None:
             assert status_of(folder, plant.signers), f"{file.name}, byte {place}"
 
 
+FORGED: dict[str, Callable[[list[str], list[str]], list[str]]] = {
+    "cut": lambda rows, _: rows[:-1],
+    "in another order": lambda rows, _: [rows[0], *rows[:0:-1]],
+    "of another question": lambda _, other: other,
+}
+
+
+@pytest.mark.parametrize("name", FORGED)
+def test_a_table_that_the_plant_did_not_sign_is_refused(plant: Plant, name: str) -> None:
+    """Also one of another recall that it signed."""
+    folder, other = plant.copy(f"forged {name}"), plant.folder / f"other {name}"
+    plant.recall("--key", plant.key, "--evidence", other, lot="none").expect(1)
+    rows = ((it / "pieces.csv").read_text().splitlines(keepends=True) for it in (folder, other))
+    (folder / "pieces.csv").write_text("".join(FORGED[name](*rows)))
+    plant.verify(folder).expect(1, "REFUSED: pieces.csv was changed")
+    shutil.copy(other / signing.SIGNATURE, folder)
+    shutil.copy(other / signing.SUMS, folder)
+    plant.verify(folder).expect(1, "REFUSED: ")
+
+
 def test_a_row_that_is_taken_out_everywhere_is_refused(plant: Plant) -> None:
     folder = plant.copy("row")
     without_a_row(folder)
