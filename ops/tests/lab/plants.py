@@ -12,7 +12,7 @@ from lab.databases import Database
 from lab.line import Line
 from lab.recalls import Asked
 from lab.world import RUNNING
-from tracedesk_ops import catalogue
+from tracedesk_ops import catalogue, doubts, entries, untraced
 
 PIECES = "line, file, board, designator, part, lot, reel, machine, slot, overdue, at"
 TABLES = {
@@ -55,7 +55,16 @@ class WorkedLine(Line):
                 self.copy()
                 self.rollover().expect()
             self.post(part.splitlines())
+            self.decide()
         self.copy()
+
+    def decide(self) -> None:
+        """Somebody decides about all that was refused, so that it is in no answer's way."""
+        for its in entries.told(self.get("/line/book?after=0")[1])[0]:
+            if its.kind in untraced.REFUSALS:
+                is_reel = its.kind == "handling"
+                became = doubts.TAKEN_OFF if is_reel else untraced.SCRAPPED
+                self.note("decisions", Of=its.n, Became=became)
 
     def copy(self, status: int = 0) -> pathlib.Path:
         """Seals the desk, and copies the folder to a new mirror; 4 says that senders have to send
