@@ -9,8 +9,9 @@ from typing import Callable, Iterator
 
 import pytest
 from lab import ROOT
-from lab.installed import metrics_of
-from lab.machine import JSON, URL, Machine, part
+from lab.installed import NO_SECOND, SECOND_PORT, make_second_line, metrics_of
+from lab.machine import JSON, Machine, part
+from lab.recaller import ANSWERS, ASKED, SIGNED, Recaller
 from lab.waits import wait_for
 
 pytestmark = [pytest.mark.root, pytest.mark.xdist_group("machine")]
@@ -18,25 +19,7 @@ pytestmark = [pytest.mark.root, pytest.mark.xdist_group("machine")]
 WRONG = re.compile(
     r"Traceback|\w*Error\b|Errno|denied|not permitted|Failed with result|nobody foresaw"
 )
-ANNA = "--user anna:anna-pass --cacert /etc/tracedesk/server.crt"
-PAGE = """
-cd /etc/tracedesk
-printf 'anna:%s\\n' "$(openssl passwd -6 anna-pass)" > recallers
-chown root:www-data recallers; chmod 640 recallers
-systemctl enable --now tracedesk-recall-page tracedesk-recall-work
-systemctl reload nginx
-"""
-SIGNED = """
-cd /etc/tracedesk
-test -e recall-key || ssh-keygen -q -t ed25519 -N '' -C plant -f recall-key
-systemctl enable --now tracedesk-recall-sign.socket
-for it in $(ls *.conf); do
-  grep -q '^key' "$it" || echo 'key = /run/tracedesk-recall-sign' >> "$it"
-done
-"""
-ASK = f"curl -sS -o /tmp/body -w '%{{http_code}} %{{redirect_url}}' {ANNA}"
 LINE, FOLDER = "L2", "/var/lib/tracedesk/L2"  # a line that is a folder
-ASKED, ANSWERS = "/var/lib/tracedesk-recall/asked", "/var/lib/tracedesk-recall/answers"
 PAPERS = {
     "recall.pdf": b"%PDF",
     "recall.xlsx": b"PK",
@@ -80,6 +63,15 @@ def test_no_unit_is_left_out(machine: Machine) -> None:
     assert tests == {name.removeprefix("test_") for name in globals() if name[5:] in tests}
 
 
+def test_no_unit_is_exposed(machine: Machine) -> None:
+    """systemd's own figure for each, as it is loaded."""
+    look = "systemd-analyze security --no-pager ${it/@./@L2.} | tail -n 1"
+    said = machine.shell(f"cd /lib/systemd/system; for it in tracedesk*.service; do {look}; done")
+    found = re.findall(r"exposure level for (\S+): ([0-9.]+)", said)
+    assert len(found) == len(list((ROOT / "packaging").glob("tracedesk*.service")))
+    assert not {unit: level for unit, level in found if float(level) > 2}
+
+
 def test_tracedesk(machine: Machine, journal: Callable[[str], None]) -> None:
     """A message, by the proxy."""
     assert machine.post("each-unit") == "200"
@@ -103,82 +95,48 @@ def test_tracedesk_watch(machine: Machine, journal: Callable[[str], None]) -> No
 
 
 @pytest.fixture
-def page(machine: Machine) -> Machine:
-    """The machine with the page of recalls."""
-    machine.shell(PAGE)
-    wait_for("the page", lambda: machine.by_client(f"{ASK} {URL}/recall/").startswith("200"))
-    return machine
+def anna(machine: Machine) -> Recaller:
+    return Recaller(machine)
 
 
-def recalled(machine: Machine, lot: str) -> str:
-    """The address of a recall's answer, once it is there."""
-    told = machine.by_client(f"{ASK} -F kind=lot -F names={lot} -F part= {URL}/recall/").split()
-    assert told[0] == "303", machine.by_client("cat /tmp/body")
-    ended = f"ls {ANSWERS}/{told[1].rstrip('/').rpartition('/')[2]} 2> /dev/null || true"
-    wait_for("the recall's end", lambda: "ended.json" in machine.shell(ended), 3600)
-    return told[1]
-
-
-def test_tracedesk_recall_page(page: Machine, journal: Callable[[str], None]) -> None:
+def test_tracedesk_recall_page(anna: Recaller, journal: Callable[[str], None]) -> None:
     """A recall from the log-in to its papers, by both units."""
-    at = recalled(page, "L-77")
-    assert page.by_client(f"{ASK} {at}").startswith("200")
-    said = page.by_client("cat /tmp/body")
+    machine, at = anna.machine, anna.asks("lot", "L-77")
+    said = anna.text(at)
     assert 'id="answer">Complete: ' in said, re.sub(r"<[^>]*>", " ", said)
     assert "too much time" not in said
     for name, begin in PAPERS.items():
-        assert page.by_client(f"{ASK} {at}{name}").startswith("200"), name
-        assert page.by_client("head -c 9 /tmp/body").startswith(begin.decode()), name
-    again = recalled(page, "no-such-lot")  # and the next one
-    page.by_client(f"{ASK} {again}")
-    assert "none of these lines knows" in page.by_client("cat /tmp/body")
-    owners = page.shell(f"stat -c '%U %G %a' {ASKED} {ANSWERS} {ANSWERS}/2*").splitlines()
+        assert anna.status(f"{at}{name}") == "200", name
+        assert machine.by_client("head -c 9 /tmp/body").startswith(begin.decode()), name
+    assert "none of these lines knows" in anna.answer("lot", "no-such-lot")  # and the next one
+    owners = machine.shell(f"stat -c '%U %G %a' {ASKED} {ANSWERS} {ANSWERS}/2*").splitlines()
     assert owners[0] == "tracedesk-recall tracedesk-recall 2750"
     assert {*owners[1:]} == {"tracedesk tracedesk-recall 2750"}
     for unit in ("tracedesk-recall-page", "tracedesk-recall-work"):
-        assert page.shell(f"systemctl is-active {unit}").strip() == "active"
-        assert state_of(page, unit) == ["success", "0"]
+        assert machine.shell(f"systemctl is-active {unit}").strip() == "active"
+        assert state_of(machine, unit) == ["success", "0"]
         journal(unit)
 
 
-def test_tracedesk_recall_work(page: Machine, journal: Callable[[str], None]) -> None:
+def test_tracedesk_recall_work(anna: Recaller, journal: Callable[[str], None]) -> None:
     """What is no question of the page's is ended, and the next recall is run."""
     name = f"{datetime.datetime(2020, 1, 1):%Y%m%dT%H%M%S.%fZ}-00000000"
     bad = {"kind": "lot", "names": ["L", "--program", "/x"], "reader": "x", "at": ""}
     told = shlex.quote(json.dumps(bad))
     put = f"umask 007; printf %s {told} > {ASKED}/{name}.json"
-    page.shell(f"runuser -u tracedesk-recall -- sh -c {shlex.quote(put)}")
-    recalled(page, "L-77")
-    assert '"status": 2' in page.shell(f"cat {ANSWERS}/{name}/ended.json")
+    anna.machine.shell(f"runuser -u tracedesk-recall -- sh -c {shlex.quote(put)}")
+    anna.asks("lot", "L-77")
+    assert '"status": 2' in anna.machine.shell(f"cat {ANSWERS}/{name}/ended.json")
     journal("tracedesk-recall-work")
 
 
-def test_a_hold_by_the_page(page: Machine, journal: Callable[[str], None]) -> None:
-    """It is asked of each desk, of which those by `tracedesk serve` keep no book."""
-    words = "-F 'kind=hold lot' -F names=L-77 -F badge=4711 -F reason=tried"
-    told = page.by_client(f"{ASK} {words} {URL}/recall/").split()
-    assert told[0] == "303", page.by_client("cat /tmp/body")
-    ended = f"cat {ANSWERS}/{told[1].rstrip('/').rpartition('/')[2]}/ended.json || true"
-    wait_for("its end", lambda: "HELD" in page.shell(ended).upper())
-    page.by_client(f"{ASK} {told[1]}")
-    assert "its server keeps no book" in page.by_client("cat /tmp/body")
-    journal("tracedesk-recall-work")
-
-
-def test_tracedesk_recall_sign_of(page: Machine, journal: Callable[[str], None]) -> None:
-    """The worker has evidence signed by a key that none of the users can read."""
-    page.shell(SIGNED)
-    name = recalled(page, "L-77").rstrip("/").rpartition("/")[2]
-    sums = f"{ANSWERS}/{name}/evidence/SHA256SUMS"
+def test_tracedesk_recall_sign_of(anna: Recaller, journal: Callable[[str], None]) -> None:
+    """The worker has evidence signed by a key that it can't read."""
+    anna.machine.shell(SIGNED)
+    sums = f"{anna.folder(anna.asks('lot', 'L-77'))}/evidence/SHA256SUMS"
     check = f"ssh-keygen -Y check-novalidate -n tracedesk-recall -s {sums}.sig < {sums}"
-    key = page.shell("ssh-keygen -l -f /etc/tracedesk/recall-key.pub").split()[1]
-    assert key in page.shell(check)
-    for user in ("tracedesk", "tracedesk-recall", "tracedesk-sign", "www-data"):
-        page.shell(f"! runuser -u {user} -- cat /etc/tracedesk/recall-key 2> /dev/null")
-    for user in ("tracedesk-recall", "www-data"):
-        page.shell(f"! runuser -u {user} -- test -w /run/tracedesk-recall-sign")
-        page.shell(f"! runuser -u {user} -- test -w {ANSWERS}")
-    page.shell(f"! runuser -u www-data -- test -w {ASKED}")
+    key = anna.machine.shell("ssh-keygen -l -f /etc/tracedesk/recall-key.pub").split()[1]
+    assert key in anna.machine.shell(check)
     journal("tracedesk-recall-sign@*")
 
 
@@ -187,21 +145,12 @@ def test_tracedesk_recall_sign_of(page: Machine, journal: Callable[[str], None])
 
 @pytest.fixture
 def line(machine: Machine) -> Iterator[str]:
-    """The URL of a line that is a folder, made as its page says. It goes away, since other tools
-    would ask for it too.
-    """
-    page = (ROOT / "docs/line-folder.md").read_text(encoding="utf-8")
-    script = page.split("```text\n")[1].split("```")[0]
-    port = re.search(r"port = (\d+)", script)
-    assert port
-    machine.shell(script)
-    url = f"http://127.0.0.1:{port[1]}"
-    wait_for("its desk answers", lambda: posted(machine, url, "each-line") == "200")
+    """The URL of a line that is a folder. It goes away, since other tools would ask for it too."""
+    make_second_line(machine)
+    url = f"http://127.0.0.1:{SECOND_PORT}"
+    wait_for("its desk takes a message", lambda: posted(machine, url, "each-line") == "200")
     yield url
-    machine.shell(
-        f"systemctl disable --now tracedesk@{LINE} tracedesk-line-{{seal,rollover}}@{LINE}.timer;"
-        f" rm -r {FOLDER} /etc/tracedesk/{LINE}.conf"
-    )
+    machine.shell(NO_SECOND)
 
 
 def posted(machine: Machine, url: str, name: str) -> str:

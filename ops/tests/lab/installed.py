@@ -2,13 +2,30 @@
 from __future__ import annotations
 
 import contextlib
+import csv
+import io
+import json
 import os
 import pathlib
+import shlex
 import tempfile
 from typing import Iterator, NamedTuple
 
 from lab import ROOT
-from lab.machine import OFFICE, URL, Block, Machine, blocks, booted, is_same, run
+from lab.machine import (
+    M1,
+    OFFICE,
+    URL,
+    Block,
+    Machine,
+    blocks,
+    blocks_of,
+    booted,
+    is_same,
+    part,
+    run,
+)
+from lab.waits import wait_for
 
 
 ARCHIVES = """python3 -B - <<'END'
@@ -19,6 +36,17 @@ folder = line.LineFolder(pathlib.Path("/var/lib/tracedesk"))
 print(*(archive.file for archive in around.survey(folder, "L1", sealed.named).archives))
 END
 """
+SECOND = blocks_of(ROOT / "docs/line-folder.md", "test_installed_two.py")
+SECOND_PORT = 8082
+NO_SECOND = """
+systemctl disable --now tracedesk@L2 tracedesk-line-{seal,rollover}@L2.timer 2> /dev/null
+rm -rf /var/lib/tracedesk/L2 /etc/tracedesk/L2.conf
+"""
+BY_ANNA = {"By": "Anna", "Reason": "tried"}
+SENDER = (
+    "tracedesk-send --ca /etc/tracedesk/server.crt --user m1"
+    " --password-file /etc/tracedesk/m1.password"
+)
 
 
 class Packages(NamedTuple):
@@ -106,3 +134,35 @@ def archives_of(machine: Machine, least: int) -> list[str]:
         assert machine.post(f"more-{len(files)}") == "200"
         machine.restart("tracedesk-ops rollover L1 2>&1")
     return files
+
+
+def make_second_line(machine: Machine) -> None:
+    """Line L2 in a folder, as docs/line-folder.md makes it."""
+    machine.shell(SECOND[0].script)
+    answers = f"curl -s http://127.0.0.1:{SECOND_PORT}/overdue || true"
+    wait_for("the desk of L2 answers", lambda: machine.shell(answers))
+
+
+def refuse_work(machine: Machine, url: str, board: str) -> None:
+    """Has the desk behind a site refuse a start of work, by a sender: an entry of its book."""
+    body = {"Machine": "no-machine", "Board": board}
+    word = {"MessageName": "TraceDesk.WorkStarted", "MessageBody": body}
+    told = {**json.loads(part(f"untraced-{board}")), **word}
+    machine.write(f"{json.dumps(told)}\n", "/tmp/refused.jsonl")
+    send = f"{SENDER} --url {url} --spool /tmp/refused"
+    machine.by_client(f"rm -rf /tmp/refused-* /tmp/refused; {send} --put /tmp/refused.jsonl")
+    machine.by_client(f"{send} || test $? = 1")
+
+
+def undecided(machine: Machine, url: str) -> dict[str, int]:
+    """The boards of a line about which nobody decided yet, each with the number of its entry."""
+    text = machine.ask(f"{OFFICE} {url}/line/undecided", body=True).partition("\n")[2]
+    rows = csv.DictReader(io.StringIO(text, newline=""))
+    return {row["board"]: int(row["n"]) for row in rows if row["kind"] == "work"}
+
+
+def decide(machine: Machine, url: str, board: str) -> None:
+    """Somebody with a log-in of senders decides that a board is scrapped."""
+    said = {"Of": undecided(machine, url)[board], "Became": "scrapped", **BY_ANNA}
+    post = f"{M1} --data-binary {shlex.quote(json.dumps(said))} {url}/line/decisions"
+    assert machine.ask(post) == "200"

@@ -92,14 +92,17 @@ class Block(NamedTuple):
     notes: str
 
 
-def blocks_of(page: pathlib.Path) -> list[Block]:
-    """The blocks of a page that are run."""
+def blocks_of(page: pathlib.Path, by: str = "") -> list[Block]:
+    """The blocks of a page that are run, or those that it says this file of tests runs."""
     text = page.read_text(encoding="utf-8")
     found = []
     for its in SHAPE.finditer(text):
         line = text[: its.start("script")].count("\n") + 1
         found.append(Block(f"{page.name}:{line}", its["script"], its["prints"], its["notes"]))
-    return [block for block in found if "<!-- not run:" not in block.notes]
+    note = "<!-- not run:"
+    if by:
+        return [block for block in found if f"{note} ops/tests/{by} " in block.notes]
+    return [block for block in found if note not in block.notes]
 
 
 def blocks() -> list[Block]:
