@@ -7,8 +7,8 @@ memory, and are gone at the end. The client is another network namespace, with a
 two.
 
 TRACEDESK_MACHINE in the environment names the folder, TRACEDESK_PACKAGES one with packages that
-dev/dist made already, and TRACEDESK_EXTRA files of this machine that are put on the other one,
-as FILE:PATH.
+dev/dist made already, TRACEDESK_OLD_PACKAGES one with those of 1.0.0, and TRACEDESK_EXTRA files of
+this machine that are put on the other one, as FILE:PATH.
 """
 from __future__ import annotations
 
