@@ -137,3 +137,16 @@ def test_one_rolls_over_and_the_other_goes_on(two: Machine) -> None:
     assert "the new desk is in place" in said and ": sound, 2 files, " in said
     assert two.shell("stat -c %i /var/lib/tracedesk/desk") == before
     assert REELS["L2"] in got(two, "L2", "/slots?machine=M2")
+
+
+def test_an_upgrade_starts_both_again_and_a_removal_stops_both(two: Machine) -> None:
+    show = f"systemctl show -P MainPID {' '.join(UNITS.values())}"
+    before = two.shell(show).split()
+    two.shell("cd /root/new; apt-get install --reinstall --yes ./tracedesk_*.deb 2>&1")
+    after = two.shell(show).split()
+    assert "0" not in after and len({*before, *after}) == 4
+    two.shell("DPKG_MAINTSCRIPT_PACKAGE=tracedesk /var/lib/dpkg/info/tracedesk.prerm remove")
+    assert two.shell(show).split() == ["0", "0"]
+    two.shell(f"systemctl start {' '.join(UNITS.values())}")
+    for line in URLS:
+        wait_for("it is back", lambda: health(two, line) == "200")
