@@ -34,7 +34,7 @@ psql --csv -v lot=L-77 -f /usr/share/tracedesk/plant/pieces.sql
 
 def rows_in(text: str) -> list[str]:
     """The lines of a CSV text, but for what is said beside it."""
-    return [line for line in text.splitlines() if not line.startswith("tracedesk-")]
+    return [line for line in text.splitlines() if not line.startswith(("tracedesk-", "as of "))]
 
 
 # --- Sealed files
