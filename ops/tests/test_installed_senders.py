@@ -9,7 +9,8 @@ pytestmark = [pytest.mark.root, pytest.mark.xdist_group("machine")]
 
 SEND = "tracedesk-send --url https://desk.plant --ca /etc/tracedesk/server.crt"
 BY_PASSWORD = "--user m1 --password-file /etc/tracedesk/m1.password"
-FILES = "/tmp/sent.jsonl /tmp/sent.answers"
+SPOOL = "/tmp/sent.spool"
+SENT = f"tracedesk-send --spool {SPOOL} --list sent 2> /dev/null || true"
 ACCEPTED = """
 import pathlib
 from tracedesk_ops import around, copies, line, sealed
@@ -41,19 +42,20 @@ def write_messages(machine: Machine, *texts: str) -> None:
 
 
 def begin(machine: Machine, words: str) -> subprocess.Popen[str]:
-    return machine.started(f"{SEND} {words} {FILES} 2>&1; echo status $?", by_client=True)
+    send = f"{SEND} {words} --spool {SPOOL} --follow - < /tmp/sent.jsonl 2>&1"
+    return machine.started(f"{send}; echo status $?", by_client=True)
 
 
 def test_a_sender_goes_on_over_a_roll_over_and_a_copy(machine: Machine) -> None:
     """Each message is taken, and none twice."""
     write_messages(machine, *(part(f"R{number}") for number in range(600)))
     sending = begin(machine, BY_PASSWORD)
-    wait_for("it sends", lambda: machine.shell("cat /tmp/sent.answers 2> /dev/null || true"))
+    wait_for("it sends", lambda: machine.shell(SENT))
     machine.shell("tracedesk-ops rollover L1 2>&1")
     machine.shell("tracedesk-ops seal L1 2>&1")
     said, _ = sending.communicate()
     assert "status 0" in said
-    assert machine.shell("grep -c Accepted /tmp/sent.answers").strip() == "600"
+    assert machine.shell(SENT).count("Accepted") == 600
     assert accepted(machine, "t-R%") == [600, 600]
 
 
