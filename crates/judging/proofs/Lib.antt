@@ -7,3 +7,4 @@ pub mod PlacedInTurn
 pub mod Reels
 pub mod ScrapPicks
 pub mod SortedSearch
+pub mod Told

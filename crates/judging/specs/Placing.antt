@@ -1,11 +1,13 @@
 -- The intermediate state of an install, and the results of installs, scraps and counts.
-use Rattle.std.specs.Prelude.{◌≡◌, ℕ, ◌-◌, ◌≤◌, ◌==◌, nat_lt, Bool, Option, Some, None, Result, Ok, Err, List, [], ◌∷◌, ◌++◌, drop, filter, if◌then◌else◌, IfSome}
+use Rattle.std.specs.Prelude.{◌≡◌, ⊤, ℕ, ◌-◌, ◌≤◌, ◌==◌, nat_lt, Bool, Option, Some, None, Result, Ok, Err, List, [], ◌∷◌, ◌++◌, drop, filter, if◌then◌else◌, IfSome}
 use Rattle.std.specs.Option.{option_map, option_map_or, option_to_list}
 use Rattle.std.specs.List.{list_any, AllByRecursion}
 use Rattle.std.specs.BTreeMap as tree
 use Rattle.std.specs.BTreeMap.{BTreeMap}
 use Rattle.std.specs.BTreeSet.{BTreeSet}
 use Rattle.desk_types.specs.declared.answer.Refusal.{Refusal}
+use Rattle.desk_types.specs.declared.desk.JudgeFault.{JudgeFault}
+use Rattle.desk_types.specs.declared.desk.JudgeFault.TheVariants.{Refused, NoMemory}
 use Rattle.desk_types.specs.declared.take.Pick.{Pick}
 use Rattle.desk_types.specs.declared.take.Purpose.TheVariants.{Placed}
 use Rattle.desk_types.specs.Id.{Name, same, by_name}
@@ -19,10 +21,20 @@ use Rattle.judging.specs.declared.placing.Given.{Given}
 use Rattle.judging.specs.declared.placing.Given.TheVariants.{Reel, Nothing}
 use Rattle.judging.specs.declared.placing.Feeder.{Feeder}
 
--- The result is the refusal, or else these picks.
-abbrev pub IsPicked : Option Refusal → List Pick → Result (List Pick) Refusal → Type 0
+-- The fault is this refusal, or out of memory.
+abbrev pub IsTold : Option Refusal → JudgeFault → Type 0
+IsTold refusal (Refused r) = refusal ≡ Some r
+IsTold refusal NoMemory = ⊤
+
+-- Nothing is refused, or the fault is told.
+abbrev pub IsPassed : Option Refusal → Result ⊤ JudgeFault → Type 0
+IsPassed refusal (Ok _) = refusal ≡ None
+IsPassed refusal (Err fault) = IsTold refusal fault
+
+-- Nothing is refused, and the result is these picks, or the fault is told.
+abbrev pub IsPicked : Option Refusal → List Pick → Result (List Pick) JudgeFault → Type 0
 IsPicked refusal picks (Ok result) = (refusal ≡ None) × (result ≡ picks)
-IsPicked refusal picks (Err r) = refusal ≡ Some r
+IsPicked refusal picks (Err fault) = IsTold refusal fault
 
 -- The slot's current feed during the message.
 abbrev pub feed_at : BTreeMap Name Feed → Name → Option Feed
@@ -93,12 +105,12 @@ pick_of bench d piece = record {
 -- The result of one designator, if the facts have these reels on the machine's slots, possibly
 -- including spent ones.
 abbrev pub IsPlacing : (Name → List Name) → History → Bench → Before → Name
-    → Result Feeder Refusal → BTreeMap Name Feed → BTreeSet Name → Type 0
+    → Result Feeder JudgeFault → BTreeMap Name Feed → BTreeSet Name → Type 0
 IsPlacing reels H bench before d (Ok piece) feeds seen =
     (next_refusal bench (is_placed_on H bench.board) before d ≡ None)
     × (pick_for bench before.picks d ≡ Some (pick_of bench d piece))
     × IsFeeding (live_on H bench.machine) bench.pieces reels
     (before.picks ++ pick_of bench d piece ∷ []) feeds
     × HasSeen seen (before.designators ++ d ∷ [])
-IsPlacing reels H bench before d (Err r) feeds seen =
-    next_refusal bench (is_placed_on H bench.board) before d ≡ Some r
+IsPlacing reels H bench before d (Err fault) feeds seen =
+    IsTold (next_refusal bench (is_placed_on H bench.board) before d) fault

@@ -1,6 +1,6 @@
 //! Counts: their refusals and takes.
 
-ghost use Rattle.std.specs.Prelude.{◌≡◌, List, [], IfOk};
+ghost use Rattle.std.specs.Prelude.{◌≡◌, List, []};
 ghost use Rattle.desk_types.specs.Id.{Name};
 ghost use Rattle.desk_types.specs.History.{History};
 ghost use Rattle.desk_types.specs.Pieces.{left_of, count_picks};
@@ -11,8 +11,9 @@ ghost use Rattle.judging.specs.Counting.{IsCounted};
 
 use crate::facts::Facts;
 use crate::scraps::put_off;
-use desk_types::{CountRow, Id, Listing, Pick, Purpose, Refusal, Rules};
-use std::alloc::{AllocError, Global};
+use crate::sets::is_added;
+use desk_types::{CountRow, Id, JudgeFault, Listing, Pick, Purpose, Refusal, Rules};
+use std::alloc::Global;
 use std::collections::BTreeSet;
 
 fn is_above(rules: Rules, left: u64, counted: u64) -> bool
@@ -29,26 +30,26 @@ fn pieces_above<F: Facts>(
     facts: &F,
     seen: &mut BTreeSet<Id>,
     row: &CountRow,
-) -> Result<Result<u64, Refusal>, AllocError>
+) -> Result<u64, JudgeFault>
     ensures { (H : History) (before : List Name) → F.Stands facts.now H → HasSeen seen.old before
-        → IfOk result (λ counted. IsCounted rules H before row.now counted seen.new) }
+        → IsCounted rules H before row.now result seen.new }
 {
     let reel = row.reel;
     let Some(_) = facts.reel_row(&reel) else {
-        return Ok(Err(Refusal::UnknownReel(reel)));
+        return Err(JudgeFault::Refused(Refusal::UnknownReel(reel)));
     };
-    if !seen.insert(reel)? {
-        return Ok(Err(Refusal::ReelTwice(reel)));
+    if !is_added(seen, reel)? {
+        return Err(JudgeFault::Refused(Refusal::ReelTwice(reel)));
     }
     if facts.is_mounted(&reel) {
-        return Ok(Err(Refusal::ReelMounted(reel)));
+        return Err(JudgeFault::Refused(Refusal::ReelMounted(reel)));
     }
     let left = facts.left_of(&reel);
     let counted = row.quantity.get();
     if is_above(rules, left, counted) {
-        return Ok(Err(Refusal::CountAbove(reel)));
+        return Err(JudgeFault::Refused(Refusal::CountAbove(reel)));
     }
-    Ok(Ok(left.saturating_sub(counted)))
+    Ok(left.saturating_sub(counted))
 }
 
 /// Returns the missing pieces of each counted reel, or the fault of the first faulty row. Found
@@ -58,18 +59,15 @@ pub fn picks_of_counts<F: Facts>(
     rules: Rules,
     facts: &F,
     rows: &[CountRow],
-) -> Result<Result<Listing<Pick>, Refusal>, AllocError>
+) -> Result<Listing<Pick>, JudgeFault>
     ensures { (H : History) → F.Stands facts.now H
-        → IfOk result (IsPicked (counts_refusal rules H [] rows.now)
-        (count_picks (left_of H) rows.now)) }
+        → IsPicked (counts_refusal rules H [] rows.now) (count_picks (left_of H) rows.now) result }
 {
     let mut seen = BTreeSet::new(alloc);
     let mut picks = Vec::new(alloc);
     for row in rows {
-        match pieces_above(rules, facts, &mut seen, row)? {
-            Ok(pieces) => put_off(&mut picks, row.reel, pieces, Purpose::Counted)?,
-            Err(refusal) => return Ok(Err(refusal)),
-        }
+        let pieces = pieces_above(rules, facts, &mut seen, row)?;
+        put_off(&mut picks, row.reel, pieces, Purpose::Counted)?;
     }
-    Ok(Ok(Listing::new(picks)))
+    Ok(Listing::new(picks))
 }

@@ -1,6 +1,5 @@
 //! Installs: their refusals and takes.
 
-ghost use Rattle.std.specs.Prelude.{◌≡◌, IfOk};
 ghost use Rattle.desk_types.specs.declared.command.Command.TheVariants.{MaterialsInstalled};
 ghost use Rattle.desk_types.specs.History.{History};
 ghost use Rattle.desk_types.specs.Pieces.{picks_of};
@@ -10,8 +9,8 @@ ghost use Rattle.judging.specs.Placing.{IsPicked};
 use crate::facts::Facts;
 use crate::placing::place_all;
 use crate::setup::is_in_work_on;
-use desk_types::{Designators, Id, Listing, Pick, Refusal};
-use std::alloc::{AllocError, Global};
+use desk_types::{Designators, Id, JudgeFault, Listing, Pick, Refusal};
+use std::alloc::Global;
 
 /// Returns the pieces that an install takes, or its refusal.
 #[tactic(auto, unfolding(desk_types::specs::Refusals::install_refusal))]
@@ -21,13 +20,13 @@ pub fn picks_of_install<F: Facts>(
     machine: &Id,
     board: &Id,
     designators: &Designators,
-) -> Result<Result<Listing<Pick>, Refusal>, AllocError>
+) -> Result<Listing<Pick>, JudgeFault>
     ensures { (H : History) → F.Stands facts.now H
-        → IfOk result (IsPicked (install_refusal H machine.now board.now designators.now)
-        (picks_of H (MaterialsInstalled machine.now board.now designators.now))) }
+        → IsPicked (install_refusal H machine.now board.now designators.now)
+        (picks_of H (MaterialsInstalled machine.now board.now designators.now)) result }
 {
     if !is_in_work_on(facts, machine, board) {
-        return Ok(Err(Refusal::NotInWork(*board)));
+        return Err(JudgeFault::Refused(Refusal::NotInWork(*board)));
     }
-    Ok(place_all(alloc, facts, machine, board, designators.as_slice())?)
+    place_all(alloc, facts, machine, board, designators.as_slice())
 }

@@ -9,7 +9,7 @@ ghost use Rattle.desk_types.specs.Pieces.{picks_of};
 ghost use Rattle.desk_types.specs.FloorLife.{minutes_left};
 ghost use Rattle.desk_types.specs.Desk.{IsJudgement};
 ghost use Rattle.judging.specs.Facts.{IsBy};
-ghost use Rattle.judging.specs.Placing.{IsPicked};
+ghost use Rattle.judging.specs.Placing.{IsPassed, IsPicked};
 ghost use Rattle.judging.specs.Words.{TakesNone};
 
 use crate::counts::picks_of_counts;
@@ -21,8 +21,8 @@ use crate::refusals::{
     receipt_refusal, selection_refusal, unload_refusal,
 };
 use crate::scraps::picks_of_scrap;
-use crate::sheets::definition_refusal;
-use crate::starts::start_refusal;
+use crate::sheets::check_definition;
+use crate::starts::check_start;
 use crate::takes::{pieces_of, reels_of, takes_for};
 use desk_types::{
     Change, Command, Detail, FURTHEST_AHEAD, Id, JudgeFault, Listing, Minute, Pick, Refusal, Rules,
@@ -30,25 +30,25 @@ use desk_types::{
 };
 use std::alloc::{AllocError, Global};
 
-/// Returns the refusal of a command that takes no pieces. It is the same under both sets of rules.
+/// Refuses a command that takes no pieces. Its refusal is the same under both sets of rules.
 #[tactic(auto, unfolding(desk_types::specs::Refusals::command_refusal))]
-fn command_refusal<F: Facts>(
+fn check_command<F: Facts>(
     alloc: Global,
     facts: &F,
     minute: Minute,
     command: &Command,
-) -> Result<Option<Refusal>, AllocError>
+) -> Result<(), JudgeFault>
     requires known { TakesNone command.now }
     requires by { IsBy F.Stands facts.now minute }
     ensures { (rules : Ruling) (H : History) → F.Stands facts.now H
-        → IfOk result (λ refusal. refusal ≡ command_refusal rules H minute command.now) }
+        → IsPassed (command_refusal rules H minute command.now) result }
 {
-    Ok(match command {
+    let refusal = match command {
         Command::PartDefined { part } => part_refusal(facts, part),
         Command::AlternateAllowed { part, alternate } => alternate_refusal(facts, part, alternate),
-        Command::SheetDefined { machine, rows, .. } => definition_refusal(
-            alloc, facts, machine, rows,
-        )?,
+        Command::SheetDefined { machine, rows, .. } => {
+            return check_definition(alloc, facts, machine, rows);
+        }
         Command::ProductSelected { machine, product } => selection_refusal(facts, machine, product),
         Command::ReelReceived { reel, part, .. } => receipt_refusal(facts, reel, part),
         Command::ReelOpened { reel } => opening_refusal(facts, reel),
@@ -66,12 +66,16 @@ fn command_refusal<F: Facts>(
         } => splice_refusal(facts, minute, machine, slot, reel),
         Command::MaterialsUnloaded { machine, slot } => unload_refusal(facts, machine, slot),
         Command::WorkStarted { machine, board } => {
-            start_refusal(alloc, facts, minute, machine, board)?
+            return check_start(alloc, facts, minute, machine, board);
         }
         Command::WorkCompleted { machine, board } => completion_refusal(facts, machine, board),
         Command::ClockSet => None,
         _ => unreachable!(),
-    })
+    };
+    match refusal {
+        Some(refusal) => Err(JudgeFault::Refused(refusal)),
+        None => Ok(()),
+    }
 }
 
 #[tactic(auto, unfolding(desk_types::specs::Refusals::command_refusal))]
@@ -81,33 +85,27 @@ fn command_picks<F: Facts>(
     facts: &F,
     minute: Minute,
     command: &Command,
-) -> Result<Result<Listing<Pick>, Refusal>, AllocError>
+) -> Result<Listing<Pick>, JudgeFault>
     requires { IsBy F.Stands facts.now minute }
     ensures { (H : History) → F.Stands facts.now H
-        → IfOk result (IsPicked (command_refusal rules H minute command.now)
-        (picks_of H command.now)) }
+        → IsPicked (command_refusal rules H minute command.now) (picks_of H command.now) result }
 {
     match command {
         Command::MaterialsInstalled {
             machine,
             board,
             designators,
-        } => Ok(picks_of_install(alloc, facts, machine, board, designators)?),
+        } => picks_of_install(alloc, facts, machine, board, designators),
         Command::MaterialsScrapped {
             machine,
             slot,
             quantity,
-        } => Ok(picks_of_scrap(alloc, facts, machine, slot, *quantity)?),
-        Command::CountsTaken { counts } => Ok(picks_of_counts(
-            alloc,
-            rules,
-            facts,
-            counts.as_slice(),
-        )?),
-        _ => match command_refusal(alloc, facts, minute, command)? {
-            Some(refusal) => Ok(Err(refusal)),
-            None => Ok(Ok(Listing::new(Vec::new(alloc)))),
-        },
+        } => picks_of_scrap(alloc, facts, machine, slot, *quantity),
+        Command::CountsTaken { counts } => picks_of_counts(alloc, rules, facts, counts.as_slice()),
+        _ => {
+            check_command(alloc, facts, minute, command)?;
+            Ok(Listing::new(Vec::new(alloc)))
+        }
     }
 }
 
@@ -198,10 +196,7 @@ pub fn judge<F: Facts>(
     }
     let minute = effective_minute(facts, stamped.minute);
     let command = &stamped.command;
-    let picks = match command_picks(alloc, rules, facts, minute, command)? {
-        Ok(picks) => picks,
-        Err(refusal) => return Err(JudgeFault::Refused(refusal)),
-    };
+    let picks = command_picks(alloc, rules, facts, minute, command)?;
     let picks = picks.as_slice();
     Ok(Change {
         stamped: stamped.clone()?,

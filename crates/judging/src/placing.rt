@@ -17,7 +17,9 @@ ghost use Rattle.judging.specs.Facts.{ArePlacedOn};
 ghost use Rattle.judging.specs.Placing.{IsPicked, Before, IsPlacing, IsFeeding, IsOnePiece, feed_at, one_less, given_by, live_past};
 
 use crate::facts::Facts;
-use desk_types::{Designator, Id, Listing, Pick, Purpose, Refusal};
+use crate::scraps::put_off;
+use crate::sets::is_added;
+use desk_types::{Designator, Id, JudgeFault, Listing, Pick, Purpose, Refusal};
 use setup_sheets::Sheet;
 use std::alloc::{AllocError, Global};
 use std::collections::{BTreeMap, BTreeSet};
@@ -198,7 +200,7 @@ fn place<F: Facts>(
     machine: &Id,
     board: &Id,
     designator: &Designator,
-) -> Result<Result<Feeder, Refusal>, AllocError>
+) -> Result<Feeder, JudgeFault>
     requires look_ups { (H : History) → F.Stands facts.now H → IsSome sheet
         → option_copied sheet ≡ sheet_on H machine.now }
     requires names { (H : History) → F.Stands facts.now H
@@ -207,23 +209,22 @@ fn place<F: Facts>(
         → IsFeeding (live_on H machine.now) (left_of H)
         (F.reels_on facts.now machine.now) before.picks feeds.old
         → HasSeen seen.old before.designators
-        → IfOk result
-        (λ placing. IsPlacing (F.reels_on facts.now machine.now) H
-        (bench_of H machine.now board.now) before designator.now placing feeds.new seen.new) }
+        → IsPlacing (F.reels_on facts.now machine.now) H (bench_of H machine.now board.now)
+        before designator.now result feeds.new seen.new }
 {
     let Some(slot) = slot_for(facts, sheet, machine, designator) else {
-        return Ok(Err(Refusal::DesignatorNotOnSheet(Id::from(*designator))));
+        return Err(JudgeFault::Refused(Refusal::DesignatorNotOnSheet(Id::from(*designator))));
     };
-    if !seen.insert(*designator)? {
-        return Ok(Err(Refusal::DesignatorTwice(Id::from(*designator))));
+    if !is_added(seen, *designator)? {
+        return Err(JudgeFault::Refused(Refusal::DesignatorTwice(Id::from(*designator))));
     }
     if has_placed(facts, placed, board, designator) {
-        return Ok(Err(Refusal::AlreadyPlaced(Id::from(*designator))));
+        return Err(JudgeFault::Refused(Refusal::AlreadyPlaced(Id::from(*designator))));
     }
     let Some(reel) = take_piece(facts, feeds, machine, &slot)? else {
-        return Ok(Err(Refusal::ReelShort(Id::from(*designator))));
+        return Err(JudgeFault::Refused(Refusal::ReelShort(Id::from(*designator))));
     };
-    Ok(Ok(Feeder { slot, reel }))
+    Ok(Feeder { slot, reel })
 }
 
 /// Takes one piece for each designator in order, or returns the fault of the first faulty one.
@@ -233,13 +234,12 @@ pub fn place_all<F: Facts>(
     machine: &Id,
     board: &Id,
     designators: &[Designator],
-) -> Result<Result<Listing<Pick>, Refusal>, AllocError>
+) -> Result<Listing<Pick>, JudgeFault>
     ensures { (H : History) → F.Stands facts.now H
-        → IfOk result
-        (IsPicked
+        → IsPicked
         (designators_refusal (bench_of H machine.now board.now)
         (is_placed_on H board.now) [] [] designators.now)
-        (install_picks (bench_of H machine.now board.now) [] designators.now)) }
+        (install_picks (bench_of H machine.now board.now) [] designators.now) result }
 {
     let sheet = facts.look_ups_on(machine);
     let placed = facts.placed_on(board);
@@ -247,21 +247,16 @@ pub fn place_all<F: Facts>(
     let mut seen = BTreeSet::new(alloc);
     let mut picks = Vec::with_capacity(alloc, designators.len())?;
     for designator in designators {
-        match place(
+        let piece = place(
             facts, sheet, placed, &mut feeds, &mut seen, machine, board, designator,
-        )? {
-            Ok(piece) => picks.push(Pick {
-                reel: piece.reel,
-                quantity: 1,
-                purpose: Purpose::Placed {
-                    board: *board,
-                    designator: *designator,
-                    machine: *machine,
-                    slot: piece.slot,
-                },
-            })?,
-            Err(refusal) => return Ok(Err(refusal)),
-        }
+        )?;
+        let purpose = Purpose::Placed {
+            board: *board,
+            designator: *designator,
+            machine: *machine,
+            slot: piece.slot,
+        };
+        put_off(&mut picks, piece.reel, 1, purpose)?;
     }
-    Ok(Ok(Listing::new(picks)))
+    Ok(Listing::new(picks))
 }

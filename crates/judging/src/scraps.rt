@@ -11,7 +11,7 @@ ghost use Rattle.judging.specs.Scrapping.{IsScrapped};
 
 use crate::facts::Facts;
 use crate::refusals::is_vacant;
-use desk_types::{Id, Listing, Pick, Purpose, Quantity, Refusal};
+use desk_types::{Id, JudgeFault, Listing, Pick, Purpose, Quantity, Refusal};
 use std::alloc::{AllocError, Global};
 
 /// Appends a pick of these pieces, if there are any.
@@ -78,17 +78,17 @@ pub fn picks_of_scrap<F: Facts>(
     machine: &Id,
     slot: &Id,
     quantity: Quantity,
-) -> Result<Result<Listing<Pick>, Refusal>, AllocError>
+) -> Result<Listing<Pick>, JudgeFault>
     ensures { (H : History) → F.Stands facts.now H
-        → IfOk result (IsPicked (scrap_refusal H machine.now slot.now quantity)
-        (picks_of H (MaterialsScrapped machine.now slot.now quantity))) }
+        → IsPicked (scrap_refusal H machine.now slot.now quantity)
+        (picks_of H (MaterialsScrapped machine.now slot.now quantity)) result }
 {
     if is_vacant(facts, machine, slot) {
-        return Ok(Err(Refusal::SlotEmpty(*slot)));
+        return Err(JudgeFault::Refused(Refusal::SlotEmpty(*slot)));
     }
     let scrapping = scrap(alloc, facts, machine, slot, quantity.get())?;
     if scrapping.wanting > 0 {
-        return Ok(Err(Refusal::ReelShort(*slot)));
+        return Err(JudgeFault::Refused(Refusal::ReelShort(*slot)));
     }
-    Ok(Ok(Listing::new(scrapping.picks)))
+    Ok(Listing::new(scrapping.picks))
 }

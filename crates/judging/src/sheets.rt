@@ -1,30 +1,31 @@
 //! Refusals of sheets.
 
-ghost use Rattle.std.specs.Prelude.{◌≡◌, IfOk};
 ghost use Rattle.desk_types.specs.History.{History};
 ghost use Rattle.desk_types.specs.Refusals.{definition_refusal};
+ghost use Rattle.judging.specs.Placing.{IsPassed};
 
 use crate::facts::Facts;
-use desk_types::{Id, Refusal, SheetRows};
+use desk_types::{Id, JudgeFault, Refusal, SheetRows};
 use setup_sheets::{SheetFault, check_sheet};
-use std::alloc::{AllocError, Global};
+use std::alloc::Global;
 
+/// Refuses a sheet by the first rule that it breaks.
 #[tactic(auto, unfolding(desk_types::specs::Refusals::definition_refusal))]
-pub fn definition_refusal<F: Facts>(
+pub fn check_definition<F: Facts>(
     alloc: Global,
     facts: &F,
     machine: &Id,
     rows: &SheetRows,
-) -> Result<Option<Refusal>, AllocError>
+) -> Result<(), JudgeFault>
     ensures { (H : History) → F.Stands facts.now H
-        → IfOk result (λ refusal. refusal ≡ definition_refusal H machine.now rows.now) }
+        → IsPassed (definition_refusal H machine.now rows.now) result }
 {
     if facts.in_work_on(machine).is_some() {
-        return Ok(Some(Refusal::MachineBusy(*machine)));
+        return Err(JudgeFault::Refused(Refusal::MachineBusy(*machine)));
     }
     match check_sheet(alloc, facts.parts(), rows.as_slice()) {
-        Ok(()) => Ok(None),
-        Err(SheetFault::Refused(refusal)) => Ok(Some(refusal)),
-        Err(SheetFault::NoMemory) => Err(AllocError),
+        Ok(()) => Ok(()),
+        Err(SheetFault::Refused(refusal)) => Err(JudgeFault::Refused(refusal)),
+        Err(SheetFault::NoMemory) => Err(JudgeFault::NoMemory),
     }
 }

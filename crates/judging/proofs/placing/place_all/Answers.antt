@@ -4,8 +4,10 @@ use Rattle.desk_types.proofs.Common.{left_of, list_any, live_on, lookup, subst, 
 use Rattle.desk_laws.proofs.Common.{Pick}
 use Rattle.judging.proofs.Feeds.{feeds-first}
 use Rattle.judging.proofs.PlacedInTurn.{before_at, picks-end, picks-next, refusal-here, refusal-next}
-use Rattle.judging.specs.Placing.{IsFeeding, pick_of}
+use Rattle.desk_types.proofs.Common.{err_from_is_err_and}
+use Rattle.judging.specs.Placing.{IsFeeding, next_refusal, pick_of}
 use Rattle.setup_sheets.specs.Names.{HasSeen}
+use Rattle.judging.proofs.Told.{told-of-all}
 use Rattle.judging.proofs.placing.place_all.Goals as goal
 
 pub loop-designator-init : goal.loop-designator-init
@@ -22,17 +24,20 @@ loop-designator-init g c = λ H stands.
       picks = ap (λ ps. install_picks bench ps a.designators.now) none;
     }
 
-pub returns-in-Err : goal.returns-in-Err
-returns-in-Err g c = λ H stands.
+pub returns-in_err-piece : goal.returns-in_err-piece
+returns-in_err-piece g c = λ H stands.
     let a = c.args in
     let bench = bench_of H a.machine.now a.board.now in
     let i = c.loop-designator.designator-index in
+    let d = c.designator-item.result in
     let picks = c.loop-designator.picks.items in
     let inv = c.loop-designator.invariant H stands in
-    let here = c.in_ok-piece.ensures H (before_at a.designators.now picks i) stands inv.feeds inv.seen in
-    sym inv.refusal
-    ∙ refusal-here bench (is_placed_on H a.board.now) a.designators.now picks i c.designator-item.result c.in-Err.refusal
-    c.loop-designator-test.true c.designator-item.is (rw c.in-Err.is at here)
+    let here = c.in_err-piece.ensures H (before_at a.designators.now picks i) stands inv.feeds inv.seen in
+    let told = err_from_is_err_and c.from_residual-in_err-piece.result c.from_residual-in_err-piece.ensures.1 in
+    rw (told.1, told.2)
+    (told-of-all (next_refusal bench (is_placed_on H bench.board) (before_at a.designators.now picks i) d) _
+    c.in_err-piece.field-0.0 here (λ r first.
+    sym inv.refusal ∙ refusal-here bench (is_placed_on H a.board.now) a.designators.now picks i d r c.loop-designator-test.true c.designator-item.is first))
 
 pub loop-designator-preserved : goal.loop-designator-preserved
 loop-designator-preserved g c = λ H stands.
@@ -42,9 +47,9 @@ loop-designator-preserved g c = λ H stands.
     let d = c.designator-item.result in
     let picks = c.loop-designator.picks.items in
     let inv = c.loop-designator.invariant H stands in
-    let here = rw c.in-Ok.is at (c.in_ok-piece.ensures H (before_at a.designators.now picks i) stands inv.feeds inv.seen) in
-    let pick : Pick = pick_of bench d c.in-Ok.piece in
-    let pushed : c.push.new.self.items ≡ picks ++ pick ∷ [] = c.in_ok-push-in-Ok.ensures.items in
+    let here = c.in_ok-piece.ensures H (before_at a.designators.now picks i) stands inv.feeds inv.seen in
+    let pick : Pick = pick_of bench d c.in_ok-piece.piece in
+    let pushed : c.put_off.new.picks.items ≡ picks ++ pick ∷ [] = c.in_ok-put_off.ensures in
     let none = here.0 in
     let found = here.1 in
     record {

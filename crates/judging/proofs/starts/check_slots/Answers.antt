@@ -2,7 +2,7 @@ use Rattle.desk_types.proofs.Common.{[], ◌∙◌, ◌≡◌, ap, front_at, map
 use Rattle.desk_types.specs.{Setup.sheet_on, declared.front.Front.Front}
 use Rattle.setup_sheets.proofs.VerifiedStarts.{fronts-slots}
 use Rattle.std.specs.Option.{option_copied}
-use Rattle.judging.proofs.starts.slots_refusal.Goals as goal
+use Rattle.judging.proofs.starts.check_slots.Goals as goal
 
 pub verify-requires : goal.verify-requires
 verify-requires g c =
