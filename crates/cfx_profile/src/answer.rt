@@ -26,6 +26,7 @@ impl MessageFault {
 
     fn answer(&self, alloc: Global) -> Result<Value, AllocError>
         ensures value { IfOk result (λ answer. view answer ≡ fault_answer self.now) }
+        // `compact` gives the defined text only for a value without floats.
         ensures whole { IfOk result (λ answer. has_float (view answer) ≡ false) }
     {
         match self {

@@ -80,6 +80,7 @@ pub fn level_in(body: &Value, member: Member) -> Result<Level, MessageFault>
 #[tactic(auto, unfolding(crate::specs::Forms::label_in))]
 pub fn label_in(body: &Value, level: Level, member: Member) -> Result<u64, MessageFault>
     ensures value { result ≡ label_in level member (view body.now) }
+    // So the level and its label always make a `Moisture`, as `reel_received` needs.
     ensures range { IfOk result (λ label. IsLabel level label) }
 {
     match level {

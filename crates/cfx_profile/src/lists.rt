@@ -23,12 +23,14 @@ pub trait Element: Drop + Sized {
 
     /// Reads the element from an item.
     fn read(alloc: Global, item: &Value) -> Result<Self, MessageFault>
+        // `said` defines the reading of this element; only `NoMemory` may replace its result.
         ensures { IsSaid (said (view item.now)) result };
 }
 
 #[tactic(auto, unfolding(crate::specs::Lists::items_in))]
 fn items_in(body: &Value, member: Member) -> Result<&[Value], MessageFault>
     ensures ok { IfOk result (λ items. items_in member (view body.now) ≡ Ok (map view items.now)) }
+    // So `list_in` can make a `Bounded` list of the elements, without a case for other lengths.
     ensures count { IfOk result (λ items. IsListLength (length items.now)) }
     ensures err { IfErr result (λ fault. items_in member (view body.now) ≡ Err fault) }
 {

@@ -34,6 +34,7 @@ pub enum Said {
 #[tactic(auto, unfolding(crate::specs::Message::said_in))]
 pub fn read_message(alloc: Global, bytes: &[u8]) -> Result<Said, MessageFault>
     ensures said { IsSaid (said_in bytes.now) result }
+    // So `ignored_text` can repeat the name byte for byte.
     ensures text { IfOk result IsNamedByText }
 {
     let value = value_of(alloc, bytes)?;
@@ -50,8 +51,10 @@ pub fn read_message(alloc: Global, bytes: &[u8]) -> Result<Said, MessageFault>
 #[tactic(auto, unfolding(crate::specs::Message::value_of))]
 fn value_of(alloc: Global, bytes: &[u8]) -> Result<Value, MessageFault>
     ensures ok { IfOk result (λ value. value_of bytes.now ≡ Some (view value)) }
+    // Bytes that aren't UTF-8 have the same fault as a text that isn't JSON.
     ensures kind { IfErr result
         (λ fault. fault ≢ MessageFault.NoMemory → fault ≡ MessageFault.NotJson) }
+    // Bytes that have a JSON value are refused only for lack of memory.
     ensures bad { IfErr result
         (λ fault. fault ≢ MessageFault.NoMemory → value_of bytes.now ≡ None) }
 {

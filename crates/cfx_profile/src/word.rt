@@ -15,5 +15,6 @@ pub fn word_of(name: &str) -> Option<Word>
 
 /// A law: reading a kind's name gives that kind. It does nothing at run time.
 pub fn words_are_read()
+    // So no two kinds have the same name.
     ensures { (word : Word) → word_of (message_name word) ≡ Some word }
 {}

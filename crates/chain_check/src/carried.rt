@@ -39,6 +39,7 @@ pub fn first_reel<D: Desk>(
     old: &D,
     new: &D,
 ) -> Option<Difference>
+    // A reel may be on one desk alone, so the rows of both desks say which reels to compare.
     ensures same { (B B' : Basis)
         → unnumbered (tables_in old_rows.now) ≡ unnumbered (tables_of B.history)
         → unnumbered (tables_in new_rows.now) ≡ unnumbered (tables_of B'.history)

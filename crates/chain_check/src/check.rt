@@ -73,10 +73,12 @@ fn find(old: &StateDesk, new: &StateDesk) -> Option<Difference>
 /// Returns the first difference between the desks, or `None` if the new one carries on the old one.
 /// A reel of which the new desk received other pieces than were left counts as one.
 pub fn first_difference(old: &StateDesk, new: &StateDesk) -> Option<Difference>
+    // So all that `Carries` asks for was compared, also the pieces of each reel's receipt.
     ensures carries { (H H' : History) → IsState H old.now → IsState H' new.now
         → IfNone result (Carries H H') }
     ensures differs { (H H' : History) → IsState H old.now → IsState H' new.now
         → IfSome result (IsDifference H H') }
+    // A difference that carrying on allows, such as a spent reel left behind, is no result.
     ensures refutes { (H H' : History) → IsState H old.now → IsState H' new.now
         → IfSome result (Refutes H H') }
 {

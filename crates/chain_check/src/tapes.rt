@@ -48,6 +48,7 @@ fn is_changed<F: Facts>(own: &F, old: &F, new: &F, reel: &Id, mount: &MountRow) 
 /// Returns the first of the slots of these mounts that doesn't have the same reels on both desks. The mounts are those of
 /// `own`, one of the desks, where slots have live reels only.
 pub fn slot_in<F: Facts>(mounts: &RowSet, own: &F, old: &F, new: &F) -> Option<(Id, Id)>
+    // Covers the slots where `own` has a live reel, so the caller asks once for each desk.
     ensures same { (G : History) → IsJudged Two G
         → unnumbered (tables_in mounts.now) ≡ unnumbered (tables_of G)
         → ((m s : Name) → F.reels_on own.now m s ≡ live_on G m s) → (machine slot : Name)

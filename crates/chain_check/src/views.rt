@@ -11,6 +11,7 @@ use desk_types::{Id, ReelView};
 /// Returns the first difference between the views of a reel that has pieces left on both desks.
 fn view_difference(reel: Id, old: &ReelView, new: &ReelView) -> Option<Difference>
     ensures same { IfNone result (IsSameView old.now new.now) }
+    // A spent reel may differ in all of these: the caller asks only if pieces are left.
     ensures differs { 0 < old.now.remaining
         → IfSome result (IsViewDifference reel old.now new.now) }
 {

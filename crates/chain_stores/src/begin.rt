@@ -49,7 +49,9 @@ pub fn begin_of<S: Alter>(
     conn: &mut Connection<S>,
     count: u32,
 ) -> Result<Begin, Unavailable>
+    // `look` gives it: it refuses a store with more commands before this call.
     requires bound { count ≤ MOST_ENTRIES }
+    // Holds on a disk that lies too, since `first_desk` requires it of this number.
     ensures bound { IfOk result (λ begin. begin.commands ≤ MOST_ENTRIES) }
     ensures begin { (rules : Rules) (greatest : ℕ) (G : History)
         → HoldsHistory rules (state S.Store conn.old) greatest G → count ≡ length G
@@ -126,6 +128,7 @@ fn begun_with<S: Alter>(
 ) -> Result<u32, Unavailable>
     requires bound { count ≤ MOST_ENTRIES }
     ensures bound { IfOk result (λ begun. begun ≤ MOST_ENTRIES) }
+    // `first` is the UniqueID of the first command, which `begin_of` has just read.
     ensures begun { (rules : Rules) (greatest : ℕ) (G : History) (e : Entry)
         → HoldsHistory rules (state S.Store conn.old) greatest G → count ≡ length G
         → HasCleanDisk (state S.Store conn.new)

@@ -24,6 +24,7 @@ fn take_row<S: Alter, D: KeepsRows>(
     lists: &mut TraceLists,
     number: u32,
 ) -> bool
+    // `first_desk` counts up to `MOST_ENTRIES` at most, so each command has room.
     requires room { HasRoom D.Stands desk.old 1 }
     ensures takes { (B : Basis) → D.Stands desk.old B → length B.history + 1 ≡ number
         → IsTrue result → TakesNext D.Stands B.rules (HasCleanDisk (state S.Store conn.new))
@@ -53,6 +54,7 @@ pub fn first_desk<S: Alter, D: KeepsRows + Drop>(
     count: u32,
 ) -> Option<D>
     requires bound { count ≤ MOST_ENTRIES }
+    // `None` says nothing, not even that the history is shorter.
     ensures first { IfSome result
         (IsFirst D.Stands rules (HasCleanDisk (state S.Store conn.new)) (state S.Store conn.old)
         count) }

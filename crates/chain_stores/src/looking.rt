@@ -186,6 +186,7 @@ fn of_reels<S: Alter, D: KeepsRows + Drop>(
     store: &mut LineStore<S, D>,
     reels: &[Id],
 ) -> Result<PlacedRows, Unavailable>
+    // The order is by lot, and not that of the reels in the question.
     ensures pieces { ForKept S.Store D.Stands store.old store.new
         (λ L. IfOk result (λ pieces. pieces ≡ pieces_of (Reels reels.now) L.history)) }
     ensures reads { ReadsStore S.Store D.Stands store.old store.new }
@@ -271,9 +272,11 @@ pub fn look<S: Alter, D: KeepsRows + Drop>(
     store: LineStore<S, D>,
     question: &Question,
 ) -> (Connection<S>, Result<Looked<D>, Unavailable>)
+    // Asks about the disk after all reads: if it lied in any of them, nothing is said.
     ensures says { (L : Kept) → Stands S.Store D.Stands store L → IsTrue L.own
         → HasCleanDisk (state S.Store result.0)
         → IfOk result.1 (Says D.Stands L.history question.now) }
+    // Holds after an error too: the connection comes back, with the same contents.
     ensures reads { ReadsOnly S.Store (conn_of store) result.0 }
 {
     let mut store = store;

@@ -32,6 +32,7 @@ pub fn answer_import<L: Owner>(
     ensures after { (G : Ledger) → L.Stands owner.old G → L.Trusts owner.new
         → OnOk result (L.Stands owner.new
         (record G { history = after_said G (command_said import.now bytes.now) })) }
+    // Lack of memory leaves the history as it was, so the import may be sent again.
     ensures err { (G : Ledger) → L.Stands owner.old G → L.Trusts owner.new
         → OnErr result (L.Stands owner.new G) }
 {
@@ -56,6 +57,7 @@ pub fn serve_import<W: Write, L: Owner>(
     requires few_failures { failures_of output.old < 2 ^ 63 }
     requires ready { L.Ready owner.old }
     ensures stays { StaysReady L.Ready L.Trusts owner.old owner.new }
+    // A failed write undoes nothing: the history is that of the answer, however much was sent.
     ensures answers { ForLists L.Stands L.Trusts owner.old owner.new
         (AnswersFile (command_said import.now bytes.now) (W.contents (inner_of output.old))
         (W.contents (inner_of output.new)) result) }

@@ -37,6 +37,7 @@ pub fn feed<R: Read, W: Write, L: Owner>(
     ensures answers { ForLists L.Stands L.Trusts owner.old owner.new
         (AnswersInput (R.remaining (inner_of input.old)) (W.contents (inner_of output.old))
         (W.contents (inner_of output.new)) result) }
+    // No line that was read to its end is left unanswered, unless a write failed.
     ensures read { ReadsInput (R.remaining (inner_of input.old)) (R.remaining (inner_of input.new))
         result }
     ensures counts { CountsRun result input.old input.new output.old output.new }

@@ -63,6 +63,7 @@ pub fn answer_line<L: Owner>(alloc: Global, owner: &mut L, raw: RawLine) -> Opti
     ensures answer { (bytes : List ℕ) → HoldsLine raw bytes
         → ForLists L.Stands L.Trusts owner.old owner.new
         (λ G. AnswersRaw G.rules G.greatest G.history bytes result) }
+    // Holds for storage that lies too: the bytes alone decide whether there is an answer.
     ensures empty { (bytes : List ℕ) → HoldsLine raw bytes
         → MatchOption result (lines_in bytes ≡ [])
         (λ answer. lines_in bytes ≡ without_return bytes ∷ []) }

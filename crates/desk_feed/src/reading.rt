@@ -25,7 +25,9 @@ pub trait Folder {
 
     /// Reads the file at a path, up to one byte over the limit.
     fn read(&self, alloc: Global, path: &str) -> Result<Vec<u8>, UnreadFile>
+        // One byte over the limit is enough to answer that the file is too long.
         ensures bytes { IfOk result (λ bytes. IsRead (holds self.now path.now) bytes.items) }
+        // A file that can always be read is never reported as `Failed`.
         ensures failed { IfErr result (λ unread. unread ≡ Failed → may_fail self.now path.now) };
 }
 

@@ -49,9 +49,11 @@ pub fn take_line<R: Read>(
     ensures line { IfOk result
         (λ taken. TakesNext (source block.old (R.remaining (inner_of wire.old))) taken
         (source block.new (R.remaining (inner_of wire.new)))) }
+    // A failed read loses at most a part of one line: the bytes taken have no line feed.
     ensures unread { OnErr result
         (ReadsInside (source block.old (R.remaining (inner_of wire.old)))
         (R.remaining (inner_of wire.new))) }
+    // So `feed` ends: each line uses up pending bytes, or reads that are still allowed.
     ensures falls { OnOk result
         (fuel most_reads wire.new block.new < fuel most_reads wire.old block.old) }
 {

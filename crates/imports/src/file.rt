@@ -21,6 +21,7 @@ pub fn read_setup(
     product: Id,
     machine: Id,
 ) -> Result<Command, ImportFault>
+    // The first fault decides, by record, and within a record from left to right.
     ensures said { IsSaid (setup_said product machine bytes.now) result }
 {
     Ok(Command::SheetDefined {

@@ -32,6 +32,7 @@ impl Import {
     /// Returns the command with the rows in the file's bytes.
     #[tactic(auto, unfolding(crate::specs::Import::command_said))]
     pub fn command(&self, alloc: Global, bytes: &[u8]) -> Result<Stamped, ImportFault>
+        // The UniqueID, the source and the minute come from the import, never from the file.
         ensures { IsSaid (command_said self.now bytes.now) result }
     {
         let command = match self.content {

@@ -15,6 +15,7 @@ use std::alloc::{AllocError, Global};
 pub const MOST_RECORDS: usize = LONGEST_LIST + 2;
 
 pub fn first_records(alloc: Global, bytes: &[u8]) -> Result<Vec<ByteRecord>, AllocError>
+    // Records behind these 5,002 can't change the result (`first_records_decide`).
     ensures { IfOk result (λ records. map fields_of records.items ≡ records_of bytes.now) }
 {
     let rdr = reader(alloc, bytes);
@@ -36,7 +37,9 @@ pub fn first_records(alloc: Global, bytes: &[u8]) -> Result<Vec<ByteRecord>, All
 fn reader<'a>(alloc: Global, bytes: &'a [u8]) -> Reader<&'a [u8]>
     ensures config { reader_config result ≡ default_config }
     ensures ready { Ready result }
+    // So a record with too few or too many fields is a `BadRow`, and names its line.
     ensures flexible { is_flexible result ≡ true }
+    // Spaces around a name stay, so the name is refused and not silently repaired.
     ensures untrimmed { reader_trim result ≡ trim.None }
     ensures state { reader_state result ≡ st.StartRecord }
     ensures source { source_of (λ s. Some s.now) result ≡ Some (strip_bom bytes.now) }

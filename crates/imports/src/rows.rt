@@ -33,6 +33,7 @@ pub trait Row: Drop + Sized {
 
     /// Reads the record at a line as a row.
     fn read(alloc: Global, line: u64, row: &ByteRecord) -> Result<Self, ImportFault>
+        // `said` defines the reading of this row; only `NoMemory` may replace its result.
         ensures { IsSaid (said line (fields_of row.now)) result };
 }
 
@@ -45,6 +46,7 @@ fn put<T: Drop>(rows: &mut Vec<T>, row: T) -> Result<(), AllocError>
 
 fn each<T: Row>(alloc: Global, records: &[ByteRecord]) -> Result<Listing<T>, ImportFault>
     ensures said { IsSaid (each T.said FIRST_ROW (map fields_of records.now)) result }
+    // So `rows_of` can make a `Bounded` list unless it is empty, which is the fault of line 2.
     ensures bound { IfOk result (λ rows. length rows ≤ LONGEST_LIST) }
 {
     let mut rows = Vec::new(alloc);
