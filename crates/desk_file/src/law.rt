@@ -17,6 +17,7 @@ use line_replay::rows_tell_lists_apart;
 /// A law: each run on files that hold the tables of a judged history begins with that history and its greatest number,
 /// whatever greatest number is requested. It serves proofs and does nothing when it runs.
 pub fn next_run_goes_on()
+    // So a file with the tables of a history meets what `open_desk` asks of a file.
     ensures ours_first { (image : Image) (trees : Trees) (greatest : ℕ) (H : History)
         → ∥ HoldsDatabase image trees ∥₁
         → HoldsAt (ledger_tables greatest H) trees → HasOursFirst image }
@@ -24,6 +25,7 @@ pub fn next_run_goes_on()
         → ∥ HoldsDatabase image trees ∥₁
         → HoldsAt (ledger_tables greatest H) trees
         → (db : Database) → IsFoundIn image db → Holds db (ledger_tables greatest H) }
+    // A greatest number that a run asks for never replaces that of the file.
     ensures same { (image : Image) (trees : Trees) (greatest : ℕ) (H : History)
         → ∥ HoldsDatabase image trees ∥₁
         → HoldsAt (ledger_tables greatest H) trees → IsJudged Two H

@@ -24,6 +24,7 @@ pub fn in_memory<D: KeepsRows + Drop>(
     alloc: Global,
     greatest: u32,
 ) -> Result<LineStore<FileStore<MemoryFile>, D>, Unavailable>
+    // The command line gives both bounds: see `IsInRange` of `desk_words`.
     requires least { 1 ≤ greatest }
     requires most { greatest ≤ MOST_ENTRIES }
     ensures stands { IfOk result

@@ -47,15 +47,18 @@ pub fn open_desk<T: Start, D: KeepsRows + Drop>(
     ensures stands { IfOk result
         (λ store. (L : Kept) × Stands over_files D.Stands store L) }
     ensures refused { IfErr result (RefusesRun (image_at T.Start) make) }
+    // Says nothing of files with tables before the desk's, or with tables that refer to them.
     ensures begins { IfOk result
         (λ store. HasCleanDisk (state_of over_files store) → HasOursFirst (image_at T.Start)
         → (greatest : _) × (H : History) × Begins (image_at T.Start) make greatest H
         × Stands over_files D.Stands store
         (record { greatest = greatest; history = H; own = true })) }
+    // Once a new desk is made, a crash leaves all of its tables, and never a file with some.
     ensures alone { IfOk result
         (λ store. HasCleanDisk (state_of over_files store) → FindsNoTable (image_at T.Start)
         → IfSome make (λ greatest. (trees : Trees) → (state_of over_files store).may_leave trees
         → HoldsAt (blank greatest) trees)) }
+    // Files that were opened come back, in the store or in the refusal, so they can be closed.
     ensures told { MatchResult result (λ _. has_opened opener.new ≡ true)
         (λ r. has_opened opener.new ≡ (is_open_still r || has_opened opener.old)) }
 {
@@ -112,6 +115,7 @@ pub fn close_desk<T: Start, D: KeepsRows + Drop>(
     ensures whole { IfOk result (Closes D.Stands desk) }
     ensures copied { IfOk result (Copies (conn_of desk)) }
     ensures err { IfErr result (λ e. e.0 ≡ Fault.Unavailable) }
+    // After a failed close the file holds what a crash could have left before it, and no more.
     ensures left { IfErr result (λ e. Leaves (conn_of desk) e.1) }
 {
     let conn = desk.into_connection();

@@ -27,6 +27,7 @@ pub fn open_files<D: Disk + Drop>(
     mut files: Files<D>,
     options: Options,
 ) -> Result<Connection<FileStore<D>>, Files<D>>
+    // A file that was just opened is usable: `open_at` says so of both files.
     requires log { IsTrue (D.Disk.is_usable files.log) }
     requires db { IsTrue (D.Disk.is_usable files.db) }
     ensures opened { IfOk result (λ conn. HasCleanDisk (file_state conn) → IsOpened conn) }

@@ -73,7 +73,9 @@ Exit status:
 
 /// Reads the arguments.
 pub fn read_words(alloc: Global, words: &[String]) -> Result<CommandLine, AllocError>
+    // Leaves open which text is printed for help, for the version or for a mistake.
     ensures asks { IfOk result (Asks (map string_bytes words.now)) }
+    // `open_desk` and `in_memory` require these bounds of the greatest number.
     ensures range { IfOk result IsInRange }
 {
     let command = commands(alloc)?;
@@ -100,6 +102,7 @@ fn help_or_mistake(alloc: Global, error: &clap::Error) -> Result<CommandLine, Al
 }
 
 fn command_of(alloc: Global, matches: &ArgMatches<'_>) -> Result<CommandLine, AllocError>
+    // The words were parsed without a mistake, so one of the commands is named.
     requires named { (words : List (List ℕ)) × (told_of words ≡ [])
         × (subcommand_rows_of matches.now ≡ named_by words) }
     ensures asks { (words : List (List ℕ)) → told_of words ≡ []
@@ -268,6 +271,7 @@ fn no_file(alloc: Global) -> Result<String, AllocError> {
 
 /// Returns the greatest number of a desk, from 1 to its default, 1,000,000,000.
 fn greatest_in(found: &ArgMatches<'_>) -> Option<u32>
+    // Without the option the number is the greatest that the option could have.
     ensures some { IfSome result
         (GoesUpTo (first_of (codes "greatest") (rows_of (found_of found.now)))) }
     ensures none { IsNone result → HasNoGreatest (rows_of (found_of found.now)) }
@@ -280,6 +284,7 @@ fn greatest_in(found: &ArgMatches<'_>) -> Option<u32>
 
 /// Returns the number in the text of an option, from 1 to the greatest.
 pub fn number_in(found: &ArgMatches<'_>, name: &str, most: u32) -> Option<u32>
+    // The option must be there: a number without it would be made up.
     ensures some { IfSome result (Shows most (first_of name.now (rows_of (found_of found.now)))) }
     ensures none { IsNone result
         → ShowsNone most (first_of name.now (rows_of (found_of found.now))) }
@@ -293,6 +298,7 @@ pub fn number_in(found: &ArgMatches<'_>, name: &str, most: u32) -> Option<u32>
 /// Returns the number in a text, from 1 to the greatest.
 pub fn numeral(text: &str, most: u32) -> Option<u32>
     ensures some { IfSome result (λ n. IsUnsignedIn 1 most text.now × (n ≡ number_of text.now)) }
+    // Each numeral in range is read, also with a plus in front.
     ensures none { IsNone result → IsUnsignedIn 1 most text.now → ⊥ }
 {
     let number = text.parse::<u32>().ok()?;

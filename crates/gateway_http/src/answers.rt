@@ -29,6 +29,7 @@ pub fn answer_request<L: ReportedOwner>(
     requires ready { L.Ready owner.old }
     ensures ready { L.Ready owner.new }
     ensures trusts { L.Trusts owner.new → L.Trusts owner.old }
+    // Without a response the history is as before, and the caller answers Unavailable.
     ensures told { Meets L.Stands L.Trusts owner.old owner.new result
         (λ G. asked_outcome L.reports G body.now (asked_of method.now target.now)) }
 {

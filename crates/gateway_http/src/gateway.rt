@@ -87,6 +87,7 @@ impl<'a, L: ReportedOwner> Gateway<'a, L> {
 
 /// Makes the routes if they are missing and there is memory for them.
 pub fn make_missing(alloc: Global, routes: &mut Option<RouteTable>)
+    // Says nothing of missing routes: without routes each request is answered Unavailable.
     ensures { is_some routes.old ≡ true → routes.new ≡ routes.old }
 {
     if routes.is_none() {
@@ -104,6 +105,7 @@ pub fn serve<R: Read, W: Write, L: ReportedOwner>(
     requires counts { CanCountRun input.old output.old }
     requires ready { L.Ready owner.old }
     ensures stays { StaysReady L.Ready L.Trusts owner.old owner.new }
+    // Only the history changes, and not the rules or the greatest number.
     ensures answers { ForLists L.Stands L.Trusts owner.old owner.new
         (λ G H. AnswersConnection (request_rule L.reports) (R.remaining (inner_of input.old))
         (R.remaining (inner_of input.new)) (W.contents (inner_of output.old))

@@ -14,6 +14,7 @@ pub fn repeats_leave_the_list()
 
 /// A GET leaves the history unchanged.
 pub fn questions_leave_the_list()
+    // The GET is one without a body.
     ensures { (reports : Reports) (G : Ledger) (target : List ℕ)
         → (request_rule reports G (get_of target)).after ≡ G }
 {}

@@ -57,6 +57,7 @@ pub fn answer_message<L: Owner>(
     requires ready { L.Ready owner.old }
     ensures ready { L.Ready owner.new }
     ensures trusts { L.Trusts owner.new → L.Trusts owner.old }
+    // A message without a response changed nothing, and may be sent again.
     ensures told { Meets L.Stands L.Trusts owner.old owner.new result
         (λ G. message_outcome G body.now) }
 {

@@ -20,6 +20,7 @@ pub trait ReportedOwner: Owner {
         requires ready { Self.Ready self.old }
         ensures ready { Self.Ready self.new }
         ensures trusts { Self.Trusts self.new → Self.Trusts self.old }
+        // A report depends on the history alone, whatever else the owner stores.
         ensures told { (G : Ledger) → Self.Stands self.old G → Self.Trusts self.new
             → IfOk result (λ text. text ≡ reports asked G.history) }
         ensures stands { (G : Ledger) → Self.Stands self.old G → Self.Trusts self.new

@@ -73,6 +73,7 @@ impl RouteTable {
 
     /// Returns the route of a path, which may be any bytes.
     pub fn route_of(&self, path: &[u8]) -> Option<Route>
+        // The whole path counts, byte by byte: with a slash at its end it is another one.
         ensures { result ≡ route_of path.now }
     {
         match str::from_utf8(path) {

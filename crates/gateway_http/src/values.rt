@@ -25,6 +25,7 @@ pub fn boards_of(text: &str) -> Option<Boards>
 /// Reads a number of 1 to this many digits.
 #[tactic(auto, unfolding(crate::specs::Values::number_of))]
 pub fn number_of(text: &str, most_digits: usize) -> Option<u32>
+    // Nine digits fit into 32 bits, so parsing a numeral can't fail.
     requires { most_digits ≤ 9 }
     ensures { result ≡ number_of most_digits text.now }
 {

@@ -34,6 +34,7 @@ pub fn send_answer<W: Write>(
         (answer_bytes closes has_body (reply_told reply.now))) }
     ensures kept { OnOk result (failures_of wire.new ≡ failures_of wire.old) }
     ensures failed { OnErr result (failures_of wire.new ≡ failures_of wire.old + 1) }
+    // At most the beginning of the answer was sent, and it has no gap.
     ensures front { OnErr result
         (SendsFront (W.contents (inner_of wire.old)) (W.contents (inner_of wire.new))
         (answer_bytes closes has_body (reply_told reply.now))) }

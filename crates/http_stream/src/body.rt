@@ -33,6 +33,7 @@ pub fn take_body<R: Read>(
     ensures unread { OnErr result
         (ReadsFewer (source block.old (R.remaining (inner_of wire.old)))
         (R.remaining (inner_of wire.new)) length) }
+    // Lack of memory takes nothing from the input, and can't be the result for an empty body.
     ensures body { IfOk result
         (λ body. TakesBody (source block.old (R.remaining (inner_of wire.old))) length body
         (source block.new (R.remaining (inner_of wire.new)))) }

@@ -60,6 +60,7 @@ pub fn look(bytes: &[u8]) -> Glance
     ensures head { (head : _) → result ≡ Glance.Head head
         → (h : RequestHead) × IsHeadOf bytes.now head h }
     ensures unfinished { result ≡ Glance.Unfinished → IsUnfinished bytes.now }
+    // So a head is refused only if no further bytes could make it one that is served.
     ensures bad { result ≡ Glance.Bad → IsBadHead bytes.now }
 {
     let mut spans = [EMPTY_HEADER_SPAN; MOST_HEADERS];

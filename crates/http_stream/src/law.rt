@@ -17,6 +17,7 @@ pub fn bytes_decide()
         → IsOpen input ⊎ IsOnePortion p l q m }
     ensures not_both { (input : List ℕ) (p : Portion) (l : List ℕ)
         → EndsInside input → IsPortion input p l → is_starved p ≡ false → IsOpen input }
+    // So, outside of the open case, the sizes of reads don't decide where a request ends.
     ensures one_cut { (input : List ℕ) (ps qs : List Portion)
         → IsCut input ps → IsCut input qs → NoneStarved ps → NoneStarved qs
         → IsClear input → ps ≡ qs }

@@ -42,9 +42,11 @@ pub fn take_portion<R: Read>(
         (λ next. TakesNext next block.new.bytes
         (source block.old (R.remaining (inner_of input.old)))
         (source block.new (R.remaining (inner_of input.new)))) }
+    // The bytes read before the fault hold no whole request.
     ensures unread { OnErr result
         (ReadsInside (source block.old (R.remaining (inner_of input.old)))
         (R.remaining (inner_of input.new))) }
+    // So `serve` ends: each portion but the last uses up bytes, or reads still allowed.
     ensures falls { IfOk result (λ next. IfSome next
         (λ taken. is_last (portion_of block.new.bytes taken) ≡ false
         → fuel most_reads input.new block.new < fuel most_reads input.old block.old)) }

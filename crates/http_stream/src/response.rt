@@ -108,6 +108,7 @@ impl Status {
     /// Returns the status line.
     pub fn line(self) -> &'static str
         ensures line { result.now ≡ status_line self }
+        // `put_head` needs a bound of each line, so that a whole head fits into its block.
         ensures short { length result.now ≤ 64 }
     {
         match self {

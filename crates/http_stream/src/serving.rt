@@ -49,6 +49,7 @@ pub trait Handler {
         ensures ready { Ready self.new }
         ensures trusts { Trusts self.new → Trusts self.old }
         ensures held { held self.new ≡ held self.old }
+        // The mark is free: any request may be answered Unavailable, and then changes nothing.
         ensures told { ForStates Stands Trusts self.old self.new
             (λ s. AnswersRequest rule
             (record { method = method.now; target = target.now; body = body.now }) s

@@ -14,6 +14,7 @@ use std::alloc::{AllocError, Global};
 
 /// Returns the JSON value of the bytes, if they have one.
 pub fn value_of(alloc: Global, told: &[u8]) -> Result<Option<Value>, AllocError>
+    // Bytes without a JSON value are no error: nothing is found in them.
     ensures { IfOk result (λ value. option_map view value ≡ value_of told.now) }
 {
     match Value::from_slice(alloc, told) {

@@ -21,6 +21,7 @@ pub struct Piece {
 
 /// Returns the pieces that differ, in the order of the takes.
 pub fn pieces(alloc: Global, takes: &[Take], reels: &[Option<Id>]) -> Result<Vec<Piece>, AllocError>
+    // A piece for which the machine names no reel can't differ.
     ensures { IfOk result (λ found. found.items ≡ pieces takes.now reels.now) }
 {
     let mut found = Vec::new(alloc);

@@ -11,6 +11,7 @@ ghost use Rattle.line_members.specs.Comparison.{Tapes};
 
 /// A machine that names no other reel than the desk makes no finding.
 pub fn agreement_makes_no_finding()
+    // A machine that names no reel for a piece agrees too.
     ensures { (told : List ℕ) (machine board : Name) (tapes : Tapes) (takes : List Take)
         (reels : List (Option Name)) → Agree takes reels
         → compared told machine board tapes takes (Named reels) ≡ [] }

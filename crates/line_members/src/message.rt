@@ -22,6 +22,7 @@ pub fn accepted(
     guard: &Guard,
     change: &Change,
 ) -> Result<Vec<Finding>, AllocError>
+    // Only a receipt and an install have findings, whatever members other messages have.
     ensures { IfOk result (λ found. found.items
         ≡ accepted told.now (tape_at guard.now.tapes) change.now) }
 {

@@ -26,6 +26,7 @@ pub enum MachineReels {
 /// `MachineReels`: a list with a name or null for each designator. If any item has another form, or
 /// their number is another, none is compared.
 pub fn machine_reels(alloc: Global, told: &[u8], count: usize) -> Result<MachineReels, AllocError>
+    // A member that is `null` names no reels, as if it were absent.
     ensures { IfOk result (λ reels. reels ≡ machine_reels told.now count) }
 {
     let message = value_of(alloc, told)?;

@@ -38,6 +38,7 @@ impl AttributeName {
     }
 
     fn id(self) -> Option<Id>
+        // Each attribute's name is an id, so `finding_at` has no case for another.
         ensures { result ≡ Some (attribute_text self) }
     {
         match self {
@@ -119,6 +120,7 @@ fn attribute_at<'a>(body: &'a Value, name: &str) -> Option<&'a str>
 }
 
 fn is_attribute(text: &str) -> bool
+    // The limit counts characters, and not the bytes of their UTF-8.
     ensures { result ≡ is_attribute text.now }
 {
     !text.is_empty()
