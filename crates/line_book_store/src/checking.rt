@@ -21,8 +21,10 @@ pub fn check_book<S: Alter>(
     conn: &mut Connection<S>,
     commands: u64,
 ) -> Result<u32, BookFault>
+    // The book has no other rows than these entries, so no row was passed over.
     ensures ok { IfOk result (IsChecked commands (HasCleanDisk (state S.Store conn.new))
         (state S.Store conn.old)) }
+    // Explains `WrongEntry` alone: of any other fault nothing is said.
     ensures err { HasCleanDisk (state S.Store conn.new)
         → IfErr result (IsFaultOf commands (state S.Store conn.old)) }
     ensures reads { ReadsOnly S.Store conn.old conn.new }

@@ -17,6 +17,7 @@ const CREATE_BOOK: &str =
 /// Creates the empty book behind the desk's tables, in a file with no other tables, and commits it,
 /// or does nothing. Inside an open transaction of the caller nothing is done.
 pub fn make_book<S: Alter>(conn: &mut Connection<S>) -> Result<(), Error>
+    // Promises the book only in a file with the desk's tables and no others.
     ensures done { HasCleanDisk (state S.Store conn.new)
         → OnOk result
         (Opened (state S.Store conn.old).committed (state S.Store conn.new).committed) }

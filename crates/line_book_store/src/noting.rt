@@ -17,6 +17,7 @@ const INSERT_BOOK: &str =
 /// Writes the entry behind the others and commits it, or writes nothing. Inside an open transaction of
 /// the caller nothing is done.
 pub fn append_entry<S: Alter>(conn: &mut Connection<S>, entry: &BookRow) -> Result<(), Error>
+    // Promises the longer book only if the entry has the next number.
     ensures done { HasCleanDisk (state S.Store conn.new)
         → OnOk result
         (Noted entry.now (state S.Store conn.old).committed (state S.Store conn.new).committed) }
@@ -28,6 +29,7 @@ pub fn append_entry<S: Alter>(conn: &mut Connection<S>, entry: &BookRow) -> Resu
     ensures alone { HasCleanDisk (state S.Store conn.new)
         → OnOk result ((trees : Trees) → (state S.Store conn.new).may_leave trees
         → LeavesNoted entry.now (state S.Store conn.old) trees) }
+    // A crash leaves the same as before the call, or the book with the whole entry.
     ensures crash { Survives (state S.Store conn.old) (state S.Store conn.new)
         (LeavesNoted entry.now (state S.Store conn.old)) }
     ensures inside { InOwnTransaction result conn.old conn.new }

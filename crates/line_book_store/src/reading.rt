@@ -44,6 +44,7 @@ pub fn entry_at<S: Alter>(conn: &mut Connection<S>, number: u32) -> Result<Optio
 /// Returns the columns of the row with this number, if any, whatever their values. Two such rows are an
 /// error.
 pub fn row_at<S: Alter>(conn: &mut Connection<S>, number: u32) -> Result<Option<Row>, Error>
+    // Whatever the values are: `check_book` must see rows that are no entries, too.
     ensures found { HasCleanDisk (state S.Store conn.new)
         → IfOk result
         (λ found. ReadsShelf (state S.Store conn.old)
@@ -134,6 +135,7 @@ fn entries_of(alloc: Global, rows: &[Row]) -> Result<Vec<BookRow>, Error>
 #[tactic(auto, using(crate::proofs::Columns::is_text))]
 pub fn entry_of(row: &Row) -> Result<BookRow, Error>
     ensures ok { IfOk result (λ entry. row.now ≡ entry_columns entry) }
+    // So a row that an entry has is refused only for lack of memory.
     ensures err { IfErr result (OnlyWhere ((entry : BookRow) → HasNumbers entry
         → row.now ≢ entry_columns entry)) }
 {

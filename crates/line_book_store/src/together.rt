@@ -24,6 +24,7 @@ pub fn append_with_entries<S: Alter>(
     edits: &[RowEdit],
     entries: &[BookRow],
 ) -> Result<(), Error>
+    // Both lists grow by one commit: a command is never there without its entries.
     ensures done { HasCleanDisk (state S.Store conn.new)
         → OnOk result
         (AddsBoth (command_edits row.now edits.now) entries.now (state S.Store conn.old).committed

@@ -18,7 +18,9 @@ pub fn hear<S: Alter, D: KeepsRows + Drop>(
     store: &mut BookStore<S, D>,
     told: &[u8],
 ) -> Result<AnswerText, Unavailable>
+    // Each call gives it back, so that calls can follow each other.
     requires serves { Serves S.Store D.Stands store.old }
+    // Without an answer the lists are as before, but a crash may leave those of an answer.
     ensures once { ForLists S.Store D.Stands store.old store.new (λ L. (M : Lists)
         × EndsAs S.Store D.Stands store.old L (heard_call told.now result) store.new M) }
     ensures serves { Serves S.Store D.Stands store.new }

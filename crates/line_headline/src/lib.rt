@@ -28,6 +28,7 @@ pub fn kills_leave_both_lists<S: Alter, D: KeepsRows + Drop>(
     first: &BookStore<S, D>,
     last: &BookStore<S, D>,
 )
+    // A kill may leave one call more than was answered, so its sender must ask again.
     ensures { (calls : List (Option Call)) (L M : Lists)
         → IsWatched S.Store D.Stands first.now L
         → Calls S.Store D.Stands first.now L calls last.now M
@@ -40,6 +41,7 @@ pub fn next_run_has_both_lists<S: Alter, D: KeepsRows + Drop>(
     desk: &LineStore<S, D>,
     opened: &BookStore<S, D>,
 )
+    // The rows are the same too, so each entry keeps its number and its words.
     ensures { (L : Lists) (trees : Trees) (K : Kept) → AreLawful L → LeavesLists L trees
         → IsOpenedOn S.Store D.Stands desk.now opened.now K trees
         → (K.history ≡ L.kept.history) × StandsFor S.Store D.Stands opened.now
@@ -50,5 +52,6 @@ pub fn next_run_has_both_lists<S: Alter, D: KeepsRows + Drop>(
 
 /// A law: the lists that a store represents are lawful.
 pub fn lists_of_a_store_are_lawful<S: Alter, D: KeepsRows + Drop>(store: &BookStore<S, D>)
+    // `next_run_has_both_lists` asks this of the lists that a run leaves.
     ensures { (L : Lists) → StandsFor S.Store D.Stands store.now L → AreLawful L }
 {}

@@ -50,6 +50,7 @@ pub fn audit<S: Alter>(
     rows: &RowSet,
     placed: Placed,
 ) -> Result<Option<StateTable>, Error>
+    // Of several tables that differ, the first in the order of `state_tables` is the verdict.
     ensures verdict { HasCleanDisk (state S.Store conn.new)
         → IfOk result (λ verdict. (f : ℕ × ℕ → Option PlacementRow) → (es : Pieces)
         → IsExpected (state S.Store conn.old) placed es f

@@ -24,6 +24,7 @@ pub fn are_rows<E: ExpectedRow, I: Iterator<Item = E>, S: Alter>(
     requires theirs { table ≡ E.table }
     requires can { I.can_next rows }
     requires ends { IsFinite (I.remaining rows) }
+    // As many rows as expected, each the only one of its key: so the table has no others.
     ensures same { HasCleanDisk (state S.Store conn.new)
         → IfOk result
         (DecidesRows I.next_gives E.entry rows (table_of table) E.has E.columns

@@ -34,6 +34,7 @@ pub fn prepare<D: Desk>(
     desk: &D,
     change: &Change,
 ) -> Result<Acceptance, NoRow>
+    // The new entry takes the next number, so one must be left.
     requires room { HasRoom D.Stands desk.now 1 }
     requires judged { (B : Basis) → D.Stands desk.now B
         → IsChange B.rules B.history change.now.stamped change.now }
@@ -46,6 +47,7 @@ pub fn prepare<D: Desk>(
         (λ it. after_edits (command_edits it.row it.edits) (ledger_tables greatest B.history)
         ≡ ledger_tables greatest
         (accept B.history change.now.stamped)) }
+    // So no edit inserts a row that exists, which a rule of its table would refuse.
     ensures new { (greatest : ℕ) (B : Basis) → D.Stands desk.now B → number ≡ length B.history + 1
         → IfOk result
         (λ it. AreNew (command_edits it.row it.edits) (ledger_tables greatest B.history)) }

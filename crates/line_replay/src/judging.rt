@@ -40,6 +40,7 @@ pub fn accept_row<D: KeepsRows>(
         × D.Stands desk.new (record B { history = e ∷ B.history })
         × GoesOn B.rules B.history row.now e × Lead it.edits B.history e
         × (IsListed lists.old B.history → IsListed lists.new (e ∷ B.history))) }
+    // A row is refused only if no entry at all could have it here.
     ensures err { (B : Basis) → D.Stands desk.old B → length B.history + 1 ≡ number
         → IfErr result (λ f. (f ≡ NoMemory)
         ⊎ ((f ≡ NotLawful) × ((e : Entry) → GoesOn B.rules B.history row.now e → ⊥))) }

@@ -16,6 +16,7 @@ use std::alloc::{AllocError, Global};
 /// Returns the first answer again if the row has the same message, and otherwise that the UniqueID was used. The
 /// contract assumes that the row belongs to an entry with the message's UniqueID.
 pub fn answer_under(alloc: Global, row: Accepted, stamped: &Stamped) -> Result<Answer, AllocError>
+    // The row has the answer as it was first sent, so a repeat gets it byte for byte.
     ensures { (G : History) (e : Entry) → IsEntry e → e.stamped.uid ≡ stamped.now.uid
         → columns_of row ≡ entry_row G e
         → IfOk result (λ answer. answer ≡ answer_under G e stamped.now) }

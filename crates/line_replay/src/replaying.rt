@@ -38,10 +38,12 @@ pub fn replay<S: Alter, D: KeepsRows + Drop>(
     greatest: u32,
 ) -> Result<Replayed<D>, ReplayFault>
     requires bound { greatest ≤ MOST_ENTRIES }
+    // On a disk that lies, too, the desk represents some judged history.
     ensures list { IfOk result (λ r. (H : History)
         × IsReplayed D.Stands rules greatest (HasCleanDisk (state S.Store conn.new))
         (state S.Store conn.old) r.desk (kept_with (D.kept_rows r.desk) r.placed) r.count H
         × IsListed r.lists H) }
+    // The rows before the reported number are a lawful history, and no row continues it.
     ensures fault { HasCleanDisk (state S.Store conn.new)
         → IfErr result (IsFaultOf rules greatest (state S.Store conn.old)) }
     ensures reads { ReadsOnly S.Store conn.old conn.new }

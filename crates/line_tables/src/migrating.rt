@@ -16,6 +16,7 @@ const UPDATE_VERSION: &str = "UPDATE version SET number = 2";
 /// Migrates the tables from version 1 to version 2 and commits, or does nothing. One table is added, empty, and the
 /// version number changes; all other rows stay. Inside an open transaction of the caller nothing is done.
 pub fn migrate_tables<S: Alter>(conn: &mut Connection<S>) -> Result<(), Error>
+    // A file of version 1 has only the desk's tables: of any other nothing is promised.
     ensures done { HasCleanDisk (state S.Store conn.new)
         → OnOk result (Migrated (state S.Store conn.old).committed
         (state S.Store conn.new).committed) }

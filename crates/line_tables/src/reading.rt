@@ -35,6 +35,7 @@ pub const MOST_COUNTED: u64 = 9_223_372_036_854_775_807;
 /// Returns the row with this UniqueID, if any, by its index. Two such rows are an error, and so is a number outside
 /// `u32` or a value of another type.
 pub fn find<S: Alter>(conn: &mut Connection<S>, uid: &str) -> Result<Option<Accepted>, Error>
+    // With two such rows there can be no `Ok`: no history has them.
     ensures found { HasCleanDisk (state S.Store conn.new)
         → IfOk result
         (λ found. Reads (state S.Store conn.old)

@@ -17,6 +17,7 @@ pub struct Columns<'a, const N: usize> {
 /// The values of a reel.
 pub fn reel_values(row: &ReelRow) -> Result<Columns<'_, 12>, Error>
     ensures ok { IfOk result (λ columns. values_of columns.values ≡ reel_columns row.now) }
+    // SQL has no number from 2^63 on; nothing else is an error here.
     ensures err { IfErr result
         (λ _. (2 ^ 63 ≤ row.now.label) ⊎ (2 ^ 63 ≤ row.now.received) ⊎ (2 ^ 63 ≤ row.now.placed)
         ⊎ (2 ^ 63 ≤ row.now.scrapped) ⊎ (2 ^ 63 ≤ row.now.remaining) ⊎ (2 ^ 63 ≤ row.now.used)) }

@@ -19,6 +19,7 @@ pub fn placements_between<S: Alter>(
     first: i64,
     last: i64,
 ) -> Result<Vec<Row>, Error>
+    // Promises no order, and not that all rows are there: callers compare each with its key.
     ensures shown { HasCleanDisk (state S.Store conn.new)
         → IfOk result (λ rows. Reads (state S.Store conn.old) (AreOf line.placement rows.items)) }
     ensures reads { ReadsOnly S.Store conn.old conn.new }

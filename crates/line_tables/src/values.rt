@@ -74,6 +74,7 @@ pub fn yes_or_no(b: bool) -> ValueRef<'static>
 /// Returns the rowid of a placement. Rowids are ordered by number and then by place, which is below 65,536.
 pub fn placement_id<'a>(number: u64, place: u64) -> Result<ValueRef<'a>, Error>
     ensures ok { IfOk result (λ value. owned value ≡ Int (pos (placement_id number place))) }
+    // A command's number is below 2^32 and a place below 65,536, so no desk meets this.
     ensures err { IfErr result (λ _. 2 ^ 63 ≤ placement_id number place) }
 {
     let Some(first) = number.checked_mul(65_536) else {

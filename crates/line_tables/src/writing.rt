@@ -31,6 +31,7 @@ pub fn append<S: Alter>(
     row: &Accepted,
     edits: &[RowEdit],
 ) -> Result<(), Error>
+    // Each inserted row must be new: `prepare` of `line_replay` says so of its edits.
     ensures done { HasCleanDisk (state S.Store conn.new)
         → OnOk result
         (Edited (command_edits row.now edits.now) (state S.Store conn.old).committed
@@ -38,11 +39,13 @@ pub fn append<S: Alter>(
     ensures stays_open { HasCleanDisk (state S.Store conn.new)
         → OnOk result (IsTrue (state S.Store conn.old).is_open
         × IsTrue (state S.Store conn.new).is_open) }
+    // A command that can't be written whole isn't written at all.
     ensures neither { HasCleanDisk (state S.Store conn.new)
         → OnErr result (KeepsCommit (state S.Store conn.old) (state S.Store conn.new)) }
     ensures alone { HasCleanDisk (state S.Store conn.new)
         → OnOk result ((trees : Trees) → (state S.Store conn.new).may_leave trees
         → LeavesEdited (command_edits row.now edits.now) (state S.Store conn.old) trees) }
+    // A crash in the middle leaves the tables of before, or those with all edits.
     ensures crash { Survives (state S.Store conn.old) (state S.Store conn.new)
         (LeavesEdited (command_edits row.now edits.now) (state S.Store conn.old)) }
     ensures inside { InOwnTransaction result conn.old conn.new }

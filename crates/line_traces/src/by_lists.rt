@@ -27,6 +27,7 @@ pub fn pieces_of_board<S: Alter, D: Desk>(
     working: Option<&Working<D>>,
     board: &Id,
 ) -> Result<PlacedRows, Error>
+    // The result is that of the history, with a loaded desk or without one.
     ensures pieces { HasCleanDisk (state S.Store conn.new)
         → IfOk result
         (FindsOfBoth D.Stands (option_copied working.entry)

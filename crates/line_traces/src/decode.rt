@@ -70,6 +70,7 @@ fn yes_or_no(row: &Row, at: usize) -> Result<bool, Error>
 
 fn piece(row: &Row) -> Result<Placement, Error>
     ensures ok { IfOk result (λ piece. row.now ≡ placed_columns piece) }
+    // So a piece of a history is refused only for lack of memory.
     ensures err { IfErr result
         (OnlyWhere ((piece : Placement) → IsPiece piece → row.now ≢ placed_columns piece)) }
 {

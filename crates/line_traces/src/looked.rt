@@ -128,6 +128,7 @@ fn add_rows<D: Desk>(
     rows: &[Row],
     pieces: &mut Vec<Placement>,
 ) -> Result<bool, Error>
+    // After `false` some of the pieces may have been added: the caller drops them.
     ensures { IfOk result (λ all. IsTrue all → (db : Database) (H : History)
         → HoldsBoth D.Stands (Some working.now) db H
         → AreOf line.placement rows.now db
@@ -185,6 +186,7 @@ pub fn pieces_at<S: Alter, D: Desk>(
     working: &Working<D>,
     keys: &[PieceKey],
 ) -> Result<Option<PlacedRows>, Error>
+    // Says nothing of `None`, after which callers ask by a query.
     ensures told { HasCleanDisk (state S.Store conn.new)
         → IfOk result
         (λ found. IfSome found

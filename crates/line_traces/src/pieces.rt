@@ -18,6 +18,7 @@ use std::alloc::Global;
 
 /// Returns whether the board was started.
 pub fn has_board<S: Alter>(conn: &mut Connection<S>, board: &Id) -> Result<bool, Error>
+    // A board that was ever started counts, also when its work is completed.
     ensures found { HasCleanDisk (state S.Store conn.new)
         → IfOk result (FindsOfList (λ H. is_board H board.now) (state S.Store conn.old)) }
     ensures reads { ReadsOnly S.Store conn.old conn.new }
@@ -33,6 +34,7 @@ pub fn has_board<S: Alter>(conn: &mut Connection<S>, board: &Id) -> Result<bool,
 
 /// Returns whether a reel of the lot was received. It looks at every reel.
 pub fn has_lot<S: Alter>(conn: &mut Connection<S>, lot: &Id) -> Result<bool, Error>
+    // A lot counts as soon as one of its reels was received, even if no piece is placed.
     ensures found { HasCleanDisk (state S.Store conn.new)
         → IfOk result (FindsOfList (λ H. is_lot H lot.now) (state S.Store conn.old)) }
     ensures reads { ReadsOnly S.Store conn.old conn.new }

@@ -26,6 +26,7 @@ pub fn board_rows<S: Alter, D: Desk>(
     working: Option<&Working<D>>,
     board: &Id,
 ) -> Result<Option<PlacedRows>, Error>
+    // A started board without pieces has an empty trace, and not `None`.
     ensures trace { HasCleanDisk (state S.Store conn.new)
         → IfOk result
         (FindsOfBoth D.Stands (option_copied working.entry)
