@@ -23,10 +23,12 @@ pub fn feed<R: Read, W: Write, L: ReportedOwner>(
     output: &mut Wire<W>,
     owner: &mut L,
 ) -> Result<Served, ServeFault>
+    // A call adds at most one failure and `MOST_READS` reads, so the counts can't overflow.
     requires read_failures { failures_of input.old < 2 ^ 63 }
     requires reads { reads_of input.old < 2 ^ 63 }
     requires write_failures { failures_of output.old < 2 ^ 63 }
     requires ready { L.Ready owner.old }
+    // What `feed` promises, in the one form of all calls, so that any other may follow.
     ensures { CallsOnce L.reports L.Stands L.Trusts owner.old
         (fed (R.remaining (inner_of input.old)) (W.contents (inner_of output.old))
         (W.contents (inner_of output.new)) result) owner.new }

@@ -62,6 +62,7 @@ pub fn failing_disks_leave_the_list<S: Alter, D: KeepsRows + Drop>(
     first: &WatchedStore<S, D>,
     last: &WatchedStore<S, D>,
 )
+    // The disk may fail or refuse at any point, but it must not have lied by the end.
     ensures list { (calls : List Call) (greatest : ℕ) (G : History)
         → Stands S.Store D.Stands first.now.store (own_kept (by_two greatest G))
         → IsTrue (state_of S.Store first.now.store).is_open

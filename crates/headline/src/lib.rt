@@ -31,6 +31,7 @@ pub use whole::whole_run_goes_on;
 /// history of accepted commands alone determines every answer. That history is lawful and
 /// consistent, and the called owner represents it; a store represents a history by its tables.
 pub fn headline<L: ReportedOwner>(first: &L, last: &L)
+    // Trust at the end is enough: storage that has lied once isn't trusted again.
     ensures { (calls : List Call) → Calls L.reports L.Stands L.Trusts first.now calls last.now
         → (G : Ledger) → L.Stands first.now G → L.Trusts last.now
         → (H : History) × L.Stands last.now (record G { history = H })

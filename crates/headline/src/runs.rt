@@ -29,6 +29,7 @@ use state_rows::KeepsRows;
 /// all their calls. So every answer of every run is that of one list of accepted commands, which is lawful and
 /// consistent, and the files hold its tables.
 pub fn many_runs_are_one()
+    // A refused run among them adds no call and keeps the tables, so it changes nothing.
     ensures { (reports : Reports) (run : Run) (runs : List Run) → IsRun reports run
         → AreRuns reports run.last runs
         → IsRun reports (as_one run runs) }
@@ -63,6 +64,7 @@ pub fn refused_runs_keep_lists<T: Start>(files: &Files<FileFrom<T>>)
 /// A law: after a kill between two calls, which drops the files without a close, they hold the tables of the desk's
 /// history.
 pub fn let_go<F: Disk + Drop, D: KeepsRows + Drop>(desk: LineStore<FileStore<F>, D>) -> Files<F>
+    // A kill does to the files what this body does: it drops them without a close.
     ensures left { Crashes D.Stands desk result }
 {
     let conn = desk.into_connection();

@@ -27,6 +27,7 @@ pub fn whole_run_goes_on<T: Start, F: Folder, C: Clients, R: Read, W: Write, E: 
     errors: &mut Wire<E>,
 ) -> (u8, Option<Files<FileFrom<T>>>)
     requires room { HaveRoom input.old output.old errors.old }
+    // A run with status 3 was refused its files or memory: see `refused_runs_keep_lists`.
     ensures { result.0 ≢ 3 → IfSome result.1 (GoesOn (F.holds folder.now) (F.may_fail folder.now)
         (ServesAt C.Saw clients.old clients.new) R.remaining W.contents E.contents
         (map string_bytes words.now) input.old input.new output.old output.new

@@ -61,6 +61,7 @@ impl Reel {
             }) }
         ensures found { result.found ≡ 0 }
         ensures last { result.last ≡ at }
+        // The reel must be new: no command has received, opened, sealed, baked or mounted it.
         ensures stands { (H : History) (e : Entry) → IsUntouched H reel
             → e.stamped.command ≡ ReelReceived reel part lot moisture quantity
             → e.effective ≡ at → StandsFor (e ∷ H) reel result }
@@ -75,10 +76,12 @@ impl Reel {
 
     /// Takes the reel out of its bag. A reel that is out already stays so.
     pub fn open(&mut self, at: Minute)
+        // The desk's minutes never go back, so no command comes before the reel's last one.
         requires { self.old.last ≤ at }
         ensures row { self.new.row ≡ opened_row at self.old.row }
         ensures found { self.new.found ≡ self.old.found }
         ensures last { self.new.last ≡ at }
+        // A load and a splice take a reel out of its bag too.
         ensures stands { (H : History) (name : Name) (e : Entry) → StandsFor H name self.old
             → open_by name e.stamped.command ≡ Some true
             → e.effective ≡ at → StandsFor (e ∷ H) name self.new }
@@ -121,6 +124,7 @@ impl Reel {
     pub fn exposure(&self, at: Minute) -> u64
         requires { self.now.last ≤ at }
         ensures value { result ≡ exposure_at self.now.row at }
+        // So exposures can't overflow: no reel is out for longer than since 1970.
         ensures bound { result ≤ at }
         ensures stands { (H : History) (name : Name) → StandsFor H name self.now
             → result ≡ exposure_of H name at }
@@ -133,6 +137,7 @@ impl Reel {
     pub fn minutes_left(&self, at: Minute) -> Option<u64>
         requires { self.now.last ≤ at }
         ensures value { result ≡ minutes_left_at self.now.row at }
+        // So a minute and the minutes left can be added without an overflow.
         ensures bound { IfSome result (λ left. left ≤ GREATEST_LABEL) }
         ensures stands { (H : History) (name : Name) → StandsFor H name self.now
             → result ≡ minutes_left H name at }
@@ -177,6 +182,7 @@ impl Reel {
         ensures row { self.new.row ≡ taken_row usage pieces self.old.row }
         ensures found { self.new.found ≡ self.old.found }
         ensures last { self.new.last ≡ self.old.last }
+        // `StandsFor` leaves out placed and scrapped pieces, so the same history still fits.
         ensures stands { (H : History) (name : Name) → StandsFor H name self.old
             → StandsFor H name self.new }
     {
@@ -191,6 +197,7 @@ impl Reel {
 
     /// Records a count. Missing pieces become scrapped.
     pub fn count(&mut self, pieces: u64)
+        // A count above the pieces left is a `rise`.
         requires { pieces ≤ self.old.row.remaining }
         ensures row { self.new.row ≡ counted_row pieces self.old.row }
         ensures found { self.new.found ≡ self.old.found }
@@ -207,6 +214,7 @@ impl Reel {
         requires above { self.old.row.remaining < pieces }
         requires fits { self.old.row.received + (pieces - self.old.row.remaining) < 2 ^ 64 }
         ensures row { self.new.row ≡ risen_row pieces self.old.row }
+        // Found pieces have no receipt, so they are counted apart from the receipt's.
         ensures found { self.new.found
             ≡ self.old.found + (pieces - self.old.row.remaining) }
         ensures last { self.new.last ≡ self.old.last }

@@ -48,6 +48,7 @@ impl Alternates {
     /// Names an alternate for a part. Without memory the set is as before.
     pub fn add(&mut self, part: Id, alternate: Id) -> Result<(), AllocError>
         ensures ok { OnOk result (self.new ≡ insert_key by_pair self.old (part, alternate)) }
+        // In this direction only: the part doesn't become an alternate of its alternate.
         ensures has { OnOk result ((p q : Name)
             → is_pair_among self.new p q
             ≡ (same_pair (part, alternate) (p, q) || is_pair_among self.old p q)) }

@@ -36,6 +36,7 @@ impl Model for Sheet {
 impl Sheet {
     /// Returns the sheet with these rows. Fails only if memory runs out.
     pub fn new(alloc: Global, rows: SheetRows) -> Result<Sheet, AllocError>
+        // The indexes fit by the type's invariant, so contracts speak of the rows alone.
         ensures { IfOk result (λ sheet. sheet ≡ rows) }
     {
         let places = places_in(alloc, rows.as_slice())?;
@@ -56,6 +57,7 @@ impl Sheet {
 
     /// Returns the slot's first row. Takes no memory.
     pub fn row(&self, slot: &Id) -> Option<&SheetRow>
+        // The index finds the same row as a search from the first row on.
         ensures { option_copied result ≡ row_in self.now slot.now }
     {
         let place = self.places.get(slot)?;

@@ -81,6 +81,7 @@ fn twice_in(
 ) -> Result<Option<Designator>, AllocError>
     ensures twice { (before : List Name) → HasSeen seen.old before
         → IfOk result (λ twice. twice ≡ name_twice before designators.now) }
+    // A designator may occur once in a whole sheet, so those of earlier rows count too.
     ensures seen { (before : List Name) → HasSeen seen.old before → result ≡ Ok None
         → HasSeen seen.new (before ++ designators.now) }
 {

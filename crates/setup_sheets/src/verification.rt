@@ -23,14 +23,17 @@ pub fn verify(
     alternates: &Alternates,
     at: Minute,
 ) -> Result<(), (Id, Refusal)>
+    // `fronts` of `judging` gives it: one front for each row, in sheet order.
     requires { slots_of_fronts fronts.now ≡ slots_of_rows rows.now }
     ensures ok { OnOk result (first_fault alternates.now at rows.now fronts.now ≡ None) }
     ensures fault { IfErr result
         (λ fault. first_fault alternates.now at rows.now fronts.now ≡ Some fault) }
+    // No start of work is judged for a minute before the desk's.
     ensures slots_ready { (rules : Rules) (H : History) (machine : Name)
         → IsJudged rules H → now_of H ≤ at
         → AreAlternates H alternates.now → AreFronts H machine rows.now fronts.now
         → OnOk result (slots_refusal H at machine rows.now ≡ None) }
+    // The refusal names the slot itself, so the slot that comes with it isn't compared.
     ensures slots_at_fault { (rules : Rules) (H : History) (machine : Name)
         → IsJudged rules H → now_of H ≤ at
         → AreAlternates H alternates.now → AreFronts H machine rows.now fronts.now

@@ -124,6 +124,7 @@ fn put_rows(
 ) -> Result<(), AllocError>
     ensures rows { OnOk result
         (kit.new.items ≡ kit.old.items ++ rows_for row.now needed reels.now) }
+    // So later rows of the kit don't get these reels again.
     ensures given { (names : List Name) → HasSeen given.old names
         → OnOk result (HasSeen given.new (names ++ map (λ (r : ReelView). r.reel) reels.now)) }
 {
@@ -187,6 +188,7 @@ pub fn kit_list<D: Desk>(
     machine: &Id,
     boards: Boards,
 ) -> Result<Option<Text>, AllocError>
+    // Missing pieces don't refuse a kit: a row says how many a slot lacks.
     ensures { (B : Basis) → D.Stands desk.now B
         → IfOk result (λ text. text ≡ kit_list B.history product.now machine.now boards) }
 {

@@ -9,6 +9,7 @@ ghost use Rattle.trace_reports.specs.Reports.{board_trace, lot_trace, rows_below
 /// The printed traces of one history agree in both directions, for a board and a lot that are
 /// found. Holds for every history.
 pub fn reports_are_converse()
+    // Details 2 and 1 are the lowest that show a board's lots and a lot's boards.
     ensures lots { (H : History) (board lot : Name) (on of : List ℕ)
         → board_trace Two H board ≡ Some on → lot_trace One H lot ≡ Some of
         → ((part : Name) × Contains (rows_below on) (part ∷ lot ∷ []))

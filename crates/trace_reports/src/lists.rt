@@ -33,9 +33,11 @@ pub fn reel_card<S: Alter, D: KeepsRows + Drop>(
     store: &mut LineStore<S, D>,
     reel: &Id,
 ) -> Result<Text, ReportFault>
+    // `ready` may have to load the desk, so the store must represent some history.
     requires stands { (L : Kept) × Stands S.Store D.Stands store.old L }
     ensures card { ForKept S.Store D.Stands store.old store.new
         (λ L. Answers Kind.Reel (reel_card L.history reel.now) result) }
+    // The call may load the desk; the history stays, and a crash leaves nothing new.
     ensures makes_desk { MakesDesk S.Store D.Stands store.old store.new }
 {
     store.ready()?;

@@ -25,6 +25,7 @@ pub trait CsvReport<T> {
 
     /// Writes the header as a record.
     fn write_header(&self, writer: &mut TextWriter) -> Result<(), AllocError>
+        // After an error the text may end inside a record, so nothing is said of it.
         ensures { (text : List ℕ) → HasWritten writer.old text
             → OnOk result (HasWritten writer.new (text ++ record_text (header self.now))) };
 

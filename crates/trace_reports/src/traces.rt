@@ -22,6 +22,7 @@ pub fn board_trace<S: Alter, D: KeepsRows + Drop>(
     board: &Id,
     detail: TraceDetail,
 ) -> Result<Text, ReportFault>
+    // A started board without pieces has a report, with a header only.
     ensures trace { ForKept S.Store D.Stands store.old store.new
         (λ L. Answers Kind.Board (board_trace detail L.history board.now) result) }
     ensures reads { ReadsStore S.Store D.Stands store.old store.new }
@@ -56,6 +57,7 @@ pub fn overdue_list<S: Alter, D: KeepsRows + Drop>(
     alloc: Global,
     store: &mut LineStore<S, D>,
 ) -> Result<Text, ReportFault>
+    // There is always a list, since no name is asked for that could be unknown.
     ensures list { ForKept S.Store D.Stands store.old store.new
         (λ L. AnswersAlways (overdue_list L.history) result) }
     ensures reads { ReadsStore S.Store D.Stands store.old store.new }
