@@ -22,9 +22,10 @@ The parts, all of them where none is named:
           failed, whose writes may be lost for good.
 
 It runs `feed` (with a file, and in memory), the two imports, `migrate`, `audit`, `serve`, `report`
-and `tracedesk-line serve` on worked cases. Of more than --most points in one of these a seeded
-choice is taken. A run goes on undisturbed, and before each point a copy of its process is made,
-with copies of its files, in which the call fails. The connection of `serve` is a pair of files.
+and `serve`, `make`, `note` and `book` of `tracedesk-line` on worked cases. Of more than --most
+points in one of these a seeded choice is taken. A run goes on undisturbed, and before each point a
+copy of its process is made, with copies of its files, in which the call fails. The connection of
+`serve` is a pair of files.
 After each failure:
   - the answers are those of an undisturbed run of the lines that were not answered Unavailable, and
     the last of them may be cut; the status and the messages are the ones for such a failure;

@@ -9,7 +9,7 @@ import tempfile
 from typing import Any, Callable, Iterator, Sequence
 from tracedesk_dev import reports
 from tracedesk_ops import copies
-from tracedesk_dev.fault_stories import Command, Files, Served, ServedLine, Story
+from tracedesk_dev.fault_stories import Command, Files, LineCommand, Served, ServedLine, Story
 
 
 def steps_of(asked: argparse.Namespace, case: str) -> list[Any]:
@@ -181,6 +181,7 @@ WAITING = b"n,after,kind,source,uid,machine,slot,board,reel,word,of,told,state\n
         (3, b"unread", b",,,,,,EnvelopeMember,0", BESIDE[3][1], b"undecided"),
     )
 )
+HOLDING = ("--kind", "hold", "--told", (b'{"Hold":"reel","Name":"K1",' + SAID).decode())
 REPORTS = {
     "slots": (
         "/slots?machine=M",
@@ -213,6 +214,33 @@ def reporting(name: str) -> Callable[[argparse.Namespace, str], Story]:
     )
 
 
+def line_command(
+    asked: argparse.Namespace, files: Files, words: Sequence[str], told: bytes
+) -> Story:
+    """A command of `tracedesk-line` on these files, which nobody serves."""
+    all_words, name = [words[0], "--db", "desk", *words[1:]], f"line {words[0]}"
+    story = LineCommand(asked, name, all_words, [b""], files, wanted=[told])
+    story.program = asked.line
+    return story
+
+
+def making(asked: argparse.Namespace, case: str) -> Story:
+    """The book of a desk's file that has none. Once it is made it stays, whatever fails then."""
+    story = line_command(asked, fed_files(asked, case), ["make"], b"lawful 5 book 0\n")
+    story.may_be_done_unsaid = True
+    return story
+
+
+def of_book(*words: str, told: bytes) -> Callable[[argparse.Namespace, str], Story]:
+    """A command on a case's file with an empty book."""
+
+    def made(asked: argparse.Namespace, case: str) -> Story:
+        files: Files = making(asked, case).plainly((0,), fed_files(asked, case))[2]
+        return line_command(asked, files, words, told)
+
+    return made
+
+
 def serving(*targets: str) -> Callable[[argparse.Namespace, str], Story]:
     return lambda asked, case: served(asked, case, targets)
 
@@ -236,6 +264,9 @@ STORIES = (
     ("serve", "first_run", serving("/slots?machine=M")),
     ("serve", MOVED, serving(*TARGETS)),
     ("line serve", "first_run", heard),
+    ("line make", "first_run", making),
+    ("line note", "first_run", of_book("note", *HOLDING, told=b'{"Answer":"Held","Entry":1}\n')),
+    ("line book", "first_run", of_book("book", told=WAITING[: WAITING.index(b"\n") + 1])),
 )
 
 

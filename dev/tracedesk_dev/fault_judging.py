@@ -81,7 +81,8 @@ def judge_status(story: Story, got: Got, kind: str) -> None:
 def stopped(story: Story, kind: str, fail: str, seen: Seen, got: Got | None = None) -> None:
     """A run in which calls fail."""
     got = got or story.failed(fail)
-    judge(story, got, got.files, seen, kind not in ("memory", "input"))
+    may_be_done = kind not in ("memory", "input") or story.may_be_done_unsaid
+    judge(story, got, got.files, seen, may_be_done)
     judge_status(story, got, kind)
     is_once = is_refused_once(fail)
     if is_once and sum(map(story.is_unavailable, got.answers)) > 1:

@@ -184,7 +184,8 @@ class Story:
         """How a run ends that gave these answers, and in which nothing failed but what was answered
         Unavailable.
         """
-        return (int(any(not re.match(rb'{"Answer":"(Accepted|Ignored)"', it) for it in answers)),)
+        taken = rb'{"Answer":"(Accepted|Ignored|Held)"'
+        return (int(any(not re.match(taken, it) for it in answers)),)
 
     def faults(self, kind: str) -> list[Any]:
         """What is told, and how a run ends, where calls of this kind failed and no answer could say
@@ -265,6 +266,7 @@ class Story:
             return Got([], b"", str(it).encode(), status, {}, {}, b"")
 
     reads = True
+    may_be_done_unsaid = False  # whether a part may be done where memory was refused behind it
 
     def port(self, _number: int) -> tuple[str, ...]:
         return ()
@@ -339,6 +341,13 @@ class Command(Story):
         if answers[0].startswith(b"{"):
             return (1, 3) if answers == [UNAVAILABLE] else super().statuses(answers)
         return (0,)
+
+
+class LineCommand(Command):
+    """A command of `tracedesk-line`, whose book has a fault of its own."""
+
+    def taken(self, out: bytes, told: bytes, status: int, answered: bytes = b"") -> Taken:
+        return super().taken(out, told.replace(b": book ", b": "), status, answered)
 
 
 class Served(Story):
