@@ -189,7 +189,7 @@ cd / && python3 -c 'import tracedesk; print("package", tracedesk.__version__, tr
 python3 /usr/share/tracedesk/tracedesk-send.pyz --version
 ip link set lo up
 AUTOPKGTEST_TMP=$(mktemp -d) sh -x /day > /day.log 2>&1 && echo a day passed || tail -n 20 /day.log
-echo '{"MessageName":"TraceDesk.PartsDefined"}' | tracedesk-send --validate - || true
+echo '{"MessageName":"TraceDesk.PartsDefined","UniqueID":"u1","Source":"S","TimeStamp":"1970-01-01T00:00:00Z","MessageBody":{"PartNumber":"P"}}' | tracedesk-send --validate - || true
 stat -c '%n %U %G %a' /etc/tracedesk /var/lib/tracedesk /var/lib/tracedesk/sealed /var/lib/tracedesk/status
 for who in www-data tracedesk-send; do setpriv --reuid=$who --regid=$who --init-groups sh -c 'umask 022; cd / && echo x > /var/lib/tracedesk/status/$1.json && ! ls /var/lib/tracedesk 2> /dev/null' sh $who; done
 runuser -u tracedesk -- sh -c 'cat /var/lib/tracedesk/status/*.json && rm /var/lib/tracedesk/status/*.json'
@@ -231,7 +231,7 @@ def test_it_is_installed_and_purged_in_a_root_that_goes_away(packages: Packages)
         f"\npackage {packages.version()} /usr/lib/python3/dist-packages/tracedesk/__init__.py\n",
         f"\ntracedesk-send {packages.version()}\n",
         "\na day passed\n",
-        "the nearest is TraceDesk.PartDefined",
+        "there is no message 'TraceDesk.PartsDefined'; is TraceDesk.PartDefined meant?",
         "tracedesk: there is no desk yet",
         "\nchanged\n",
         "tracedesk: /var/lib/tracedesk is kept",
