@@ -67,8 +67,8 @@ def expect_done(done: Ended) -> None:
 
 class Batch:
     """Runs that share one desk; `faults` are those of all of them, and `counts` say how much was
-    tried. With `planted`, refused reports of work are sent again unchanged, which a comparison has
-    to find. Labels lie by one piece: `within` is what recalls are told of that."""
+    tried. With `planted`, recalls know nothing of what was refused, which a comparison has to find.
+    Labels lie by one piece: `within` is what recalls are told of that."""
 
     def __init__(
         self,
@@ -80,7 +80,7 @@ class Batch:
         planted: bool = False,
         within: int = 1,
     ) -> None:
-        self.within = within
+        self.within, self.planted = within, planted
         self.random = random.Random(seed * 1_000_003 + number)
         self.faults: list[str] = []
         self.counts: "collections.Counter[str]" = collections.Counter()
@@ -89,7 +89,7 @@ class Batch:
         # Of all senders: a desk serves one connection at a time, and this one stays.
         self.desk = desks.Desk(self.place.url, patience=60)
         names = {f"M{number}-{its}": f"{seed}-{number}-{its}" for its in range(runs)}
-        self.runs = [Run(name, self.place, self.desk, its, planted) for name, its in names.items()]
+        self.runs = [Run(name, self.place, self.desk, its) for name, its in names.items()]
 
     def whole(self) -> None:
         """Makes all runs, and compares."""
@@ -176,7 +176,7 @@ class Batch:
         """Asks for each lot of each run. The desk stands still by now, so what is the same for all
         of them is looked at once."""
         self.line = Line(LINE, self.place.folder)
-        looked = LookedOnce(self.within)
+        looked = LookedOnce(self.within, self.planted)
         with contextlib.ExitStack() as held:
             self.room = pathlib.Path(held.enter_context(files.Room()))
             reels = "".join(f"{reel}\n" for run in self.runs for reel in run.reels)
@@ -190,7 +190,7 @@ class Batch:
                 held.enter_context(mock.patch.object(owner, name, its))
             for number, run in enumerate(self.runs):
                 looked.machine = run.name
-                if number == 0:
+                if number == 0 and not self.planted:
                     self.ask_the_tool(run)
                 faults = [*wrong(run, self.answer_of)]
                 if faults:
@@ -281,14 +281,16 @@ class LookedOnce:
     """What is around the line's files: it is looked at once, for all reels, and each run is told
     what is of its machine."""
 
-    def __init__(self, within: int) -> None:
-        self.look, self.machine = doubts.look, ""
+    def __init__(self, within: int, planted: bool) -> None:
+        self.look, self.machine, self.planted = doubts.look, "", planted
         self.all = Question("board", "each", within=within)
         self.told: Any = None
 
     def __call__(self, folder: Any, archives: Any, *_: Any) -> Any:
         if self.told is None:
             self.told = self.look(folder, archives, self.all)
+            if self.planted:
+                self.told = self.told._replace(works=[], pieces=[])
             # an entry that nobody could read has its machine in its message alone
             self.works = by_machine(self.told.works, lambda work: doubts.work_of(work[0]).machine)
             self.pieces = by_machine(self.told.pieces, lambda piece: piece.machine)

@@ -19,8 +19,8 @@ LIES = (-1, 0, 0, 0, 1)  # by how many pieces a label is wrong
 class Run:
     """A machine with a tablet."""
 
-    def __init__(self, name: str, place: Place, desk: desks.Desk, seed: str, planted: bool) -> None:
-        self.name, self.planted, self.random = name, planted, random.Random(seed)
+    def __init__(self, name: str, place: Place, desk: desks.Desk, seed: str) -> None:
+        self.name, self.random = name, random.Random(seed)
         self.numbers = self.boards = self.traced = self.of_lots = self.besides = 0
         self.reels: dict[str, list[Any]] = {}  # of each its lot, and the pieces that are left
         self.truth: list[tuple[str, str, str]] = []  # board, designator, reel
@@ -244,18 +244,9 @@ class Run:
 
     def decide(self) -> None:
         """A person decides about what was refused: what became of a board; that a request is sent
-        again. Planted: all of it is said once more, also reports of work."""
+        again."""
         machine = self.sources["machine"].spool
-        if self.planted:
-            numbers = [its.n for its in self.book() if its.kind in untraced.REFUSALS]
-            self.decided(numbers, "sent again")
-            for name, source in self.sources.items():
-                kept = source.spool
-                for it in kept.names("aside"):
-                    kept.put(kept.text(it))
-                    kept.drop([it])
-                self.send(name)
-        elif names := [name for name in machine.names("aside") if machine.is_report(name)]:
+        if names := [name for name in machine.names("aside") if machine.is_report(name)]:
             self.decided(self.entries_of(machine.message(names[-1]))[-1:], "reworked")
         if self.random.random() < 0.3:
             self.send_request_again()
@@ -282,7 +273,5 @@ class Run:
         for source in self.in_any_order():
             self.is_out[source] = False
             self.send(source)
-        if self.planted:
-            self.decide()
         for its in self.sources.values():
             its.end()
