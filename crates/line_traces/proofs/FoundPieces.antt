@@ -3,7 +3,7 @@ use Rattle.desk_types.proofs.Common.{[], ◌&&◌, ◌∙◌, ◌∷◌, ◌≡�
 use Rattle.desk_types.proofs.Common.{flat_map, History, if◌then◌else◌, IsPermutation, IsPermutation-sym}
 use Rattle.desk_types.proofs.Common.{IsPermutation-trans, IsStrictlySortedBy, keys_of, List, list_all, map}
 use Rattle.desk_types.proofs.Common.{Name, nat_tests, ordering_then, overdue_of, placements_of, pos, refl}
-use Rattle.desk_types.proofs.Common.{same, subst₂, sym, ℕ}
+use Rattle.desk_types.proofs.Common.{same, subst₂, sym, true, ℕ}
 use Rattle.desk_laws.proofs.Common.{Placement, ReelRow}
 use Rattle.line_tables.proofs.Common.{accepted_columns, accepted_in, all_weaker, Binary, column, columns}
 use Rattle.line_tables.proofs.Common.{Database, equal, flat_map-map, Ghosts, has_text, Held, holds, Int}
@@ -17,7 +17,7 @@ use Rattle.line_traces.proofs.Joins.{found-of, join, join-by, join-one, joined, 
 use Rattle.line_traces.proofs.PlacedColumns.{IsKnown, piece_row, pieces-known, pieces-listed}
 use Rattle.line_traces.proofs.Texts.{is_overdue, of_lot, on_board, pieces_query, select_of_lot}
 use Rattle.line_traces.proofs.Texts.{select_of_lot_is, select_on, select_on_is, select_overdue}
-use Rattle.line_traces.proofs.Texts.{select_overdue_is}
+use Rattle.line_traces.proofs.Texts.{select_overdue_is, select_placed, select_placed_is}
 use Rattle.line_traces.specs.Committed.{FindsOfList, HoldsList, placed_columns}
 use Rattle.line_traces.specs.Pieces.{pieces_of_lot, pieces_on, pieces_where}
 use Rattle.sqlite_keyed.proofs.ListLemmas.{ascending-filter, ascending-map, ascending_weaker}
@@ -64,22 +64,22 @@ unfolding IsStrictlySortedBy
 in-order [] sorted = tt
 in-order (p ∷ ps) (above, sorted) = (before-all p ps above, in-order ps sorted)
 
-module _ (test : Term) where
-  shown-before : (p q : Placement) → IsBefore p q → output_cmp (pieces_query test) (shown_piece p) (shown_piece q) ≡ Less
+module _ (tests : List Term) where
+  shown-before : (p q : Placement) → IsBefore p q → output_cmp (pieces_query tests) (shown_piece p) (shown_piece q) ≡ Less
   shown-before p q is =
       ap (ordering_then (value_cmp (Int (pos p.number)) (Int (pos q.number)))) (then-Equal (value_cmp (Int (pos p.place)) (Int (pos q.place))))
       ∙ rw (int-nat p.number q.number, int-nat p.place q.place) is
 
   -- ---- the answer
 
-  module _ (params : Row) (passes : Row → Row → Bool) (is : (r p a : Row) → holds (params ∷ r ∷ p ∷ a ∷ []) test ≡ passes (columns line.reel r) (columns line.placement p)) where
-    shown-rows : (db : Database) (rows : List Row) (a : IsAnswer (pieces_query test) (overlay db.trees []) params rows)
+  module _ (params : Row) (passes : Row → Row → Bool) (is : (r p a : Row) → list_all (holds (params ∷ r ∷ p ∷ a ∷ [])) tests ≡ passes (columns line.reel r) (columns line.placement p)) where
+    shown-rows : (db : Database) (rows : List Row) (a : IsAnswer (pieces_query tests) (overlay db.trees []) params rows)
         → a.kept ≡ join is_reel is_entry passes shown_of_rows (rows_in line.reel db) (rows_in line.placement db) (accepted_in db)
     shown-rows db rows a =
-        a.distinct ∙ ap (map (output (pieces_query test))) a.grouped
-        ∙ map-join is_reel is_entry passes shown_of_rows (output (pieces_query test)) (λ r p e. list_all (holds (params ∷ r ∷ p ∷ e ∷ [])) (pieces_query test).filter) (λ r p e. params ∷ r ∷ p ∷ e ∷ [])
+        a.distinct ∙ ap (map (output (pieces_query tests))) a.grouped
+        ∙ map-join is_reel is_entry passes shown_of_rows (output (pieces_query tests)) (λ r p e. list_all (holds (params ∷ r ∷ p ∷ e ∷ [])) (pieces_query tests).filter) (λ r p e. params ∷ r ∷ p ∷ e ∷ [])
         (columns line.reel) (columns line.placement) accepted_columns
-        (λ r p e. ap (λ b. is_reel (columns line.placement p) (columns line.reel r) && (is_entry (columns line.placement p) (accepted_columns e) && b)) (and_true _ ∙ is r p e))
+        (λ r p e. ap (λ b. is_reel (columns line.placement p) (columns line.reel r) && (is_entry (columns line.placement p) (accepted_columns e) && b)) (is r p e))
         (λ r p e. refl) (db.trees 11) (db.trees 17) (db.trees 1)
 
     module _ (wanted : Placement → Bool) (same : (p : Placement) (r : ReelRow) → r.lot ≡ p.lot → passes (reel_columns r) (piece_row p) ≡ wanted p) where
@@ -89,9 +89,9 @@ module _ (test : Term) where
           join-one is_reel is_entry passes shown_of_rows (rows_in line.reel db) (piece_row p) (accepted_in db) (reel_columns known.reel) known.entry known.found known.only
           ∙ rw (same p known.reel known.lot, known.part, known.lot, known.minute) refl
 
-      pub pieces-answer : (db : Database) (H : History) → HoldsList db H → (rows : List Row) → IsAnswer (pieces_query test) (overlay db.trees []) params rows → rows ≡ map placed_columns (pieces_where wanted H)
+      pub pieces-answer : (db : Database) (H : History) → HoldsList db H → (rows : List Row) → IsAnswer (pieces_query tests) (overlay db.trees []) params rows → rows ≡ map placed_columns (pieces_where wanted H)
       pieces-answer db H held rows a =
-          let q = pieces_query test in
+          let q = pieces_query tests in
           let ps = filter wanted (placements_of H) in
           let by_piece_row : Row → List Output = λ p. flat_map (λ r. flat_map (joined is_reel is_entry passes shown_of_rows r p) (accepted_in db)) (rows_in line.reel db) in
           let found : flat_map by_piece_row (map piece_row (placements_of H)) ≡ map shown_piece ps =
@@ -106,23 +106,42 @@ module _ (test : Term) where
           sorted_unique (output_cmp q) (output_cmp_total q) (map shown_piece ps) a.ordered up (IsPermutation-trans _ _ _ (IsPermutation-sym _ _ listed) a.same) a.sorted in
           a.shown ∙ ap (map (λ (o : Output). o.1)) ordered ∙ map-map (λ (o : Output). o.1) shown_piece ps
 
-      pub finds-pieces : {S : Type 0} (g : Ghosts S) (sql : List ℕ) (names : List (List ℕ)) → IsSelect sql (pieces_query test) names → (old : Held S) (rows : List Row) → Selects g sql params old rows
+      pub finds-pieces : {S : Type 0} (g : Ghosts S) (sql : List ℕ) (names : List (List ℕ)) → IsSelect sql (pieces_query tests) names → (old : Held S) (rows : List Row) → Selects g sql params old rows
           → FindsOfList (λ H. map placed_columns (pieces_where wanted H)) (state g old) rows
       finds-pieces g sql names text old rows h = record {
         was_open = h.was_open;
-        are = λ schema H held. pieces-answer (state g old).committed H held rows (answer_of g sql (pieces_query test) names text params old rows h schema);
+        are = λ schema H held. pieces-answer (state g old).committed H held rows (answer_of g sql (pieces_query tests) names text params old rows h schema);
       }
 
--- ---- tests
+-- ---- tests and all pieces
+
+all-pass : (ps : List Placement) → filter (λ p. true) ps ≡ ps
+all-pass [] = refl
+all-pass (p ∷ ps) = ap (λ qs. p ∷ qs) (all-pass ps)
 
 module _ {S : Type 0} (g : Ghosts S) (old : Held S) (rows : List Row) where
   pub finds-on : (board : Name) → Selects g select_on (Text board ∷ []) old rows → FindsOfList (λ H. map placed_columns (pieces_on H board)) (state g old) rows
   finds-on board =
-      finds-pieces on_board (Text board ∷ []) (λ r p. has_text 2 board p) (λ r p a. refl) (λ p. same p.board board) (λ p r its. equal-text p.board board) g select_on _ select_on_is old rows
+      finds-pieces (on_board ∷ []) (Text board ∷ []) (λ r p. has_text 2 board p) (λ r p a. and_true _)
+      (λ p. same p.board board) (λ p r its. equal-text p.board board) g select_on _ select_on_is old rows
 
   pub finds-of_lot : (lot : Name) → Selects g select_of_lot (Text lot ∷ []) old rows → FindsOfList (λ H. map placed_columns (pieces_of_lot H lot)) (state g old) rows
   finds-of_lot lot =
-      finds-pieces of_lot (Text lot ∷ []) (λ r p. has_text 2 lot r) (λ r p a. refl) (λ p. same p.lot lot) (λ p r its. equal-text r.lot lot ∙ ap (λ n. same n lot) its) g select_of_lot _ select_of_lot_is old rows
+      finds-pieces (of_lot ∷ []) (Text lot ∷ []) (λ r p. has_text 2 lot r) (λ r p a. and_true _)
+      (λ p. same p.lot lot) (λ p r its. equal-text r.lot lot ∙ ap (λ n. same n lot) its) g select_of_lot _
+      select_of_lot_is old rows
 
   pub finds-overdue : Selects g select_overdue [] old rows → FindsOfList (λ H. map placed_columns (overdue_of H)) (state g old) rows
-  finds-overdue = finds-pieces is_overdue [] (λ r p. equal Binary (column p 7) (Int (pos 1))) (λ r p a. refl) (λ p. p.overdue) (λ p r its. equal-flag p.overdue) g select_overdue _ select_overdue_is old rows
+  finds-overdue = finds-pieces (is_overdue ∷ []) [] (λ r p. equal Binary (column p 7) (Int (pos 1)))
+      (λ r p a. and_true _) (λ p. p.overdue) (λ p r its. equal-flag p.overdue) g select_overdue _ select_overdue_is
+      old rows
+
+  pub finds-placed : Selects g select_placed [] old rows
+      → FindsOfList (λ H. map placed_columns (placements_of H)) (state g old) rows
+  finds-placed shows =
+      let all = finds-pieces [] [] (λ r p. true) (λ r p a. refl) (λ p. true) (λ p r its. refl) g select_placed _
+      select_placed_is old rows shows in
+      record {
+        was_open = all.was_open;
+        are = λ schema H held. all.are schema H held ∙ ap (map placed_columns) (all-pass (placements_of H));
+      }

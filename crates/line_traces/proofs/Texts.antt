@@ -6,11 +6,11 @@ use Rattle.line_tables.proofs.FindTexts.{IsSelect, rows_from}
 
 -- ---- the pieces that pass a test, with their reels and their entries
 
--- The reel and the entry of a piece, and a test.
-abbrev pub pieces_query : Term → Query
-pieces_query test = record {
+-- The reel and the entry of a piece, and tests.
+abbrev pub pieces_query : List Term → Query
+pieces_query tests = record {
   from = inner 11 (inner 17 (inner 1 end));
-  filter = op2 (Compare Eq Binary) (col 1 1) (col 2 7) ∷ op2 (Compare Eq Binary) (col 3 0) (col 2 1) ∷ test ∷ [];
+  filter = op2 (Compare Eq Binary) (col 1 1) (col 2 7) ∷ op2 (Compare Eq Binary) (col 3 0) (col 2 1) ∷ tests;
   group = None;
   project = col 2 1 ∷ col 2 2 ∷ col 2 3 ∷ col 2 4 ∷ col 1 2 ∷ col 1 3 ∷ col 2 7 ∷ col 2 5 ∷ col 2 6 ∷ col 3 5 ∷ col 2 8 ∷ [];
   distinct = false;
@@ -31,7 +31,7 @@ select_on = codes "SELECT p.number, p.place, p.board, p.designator, r.part, r.lo
 abbrev pub on_board : Term
 on_board = op2 (Compare Eq Binary) (col 2 3) (col 0 0)
 
-pub select_on_is : IsSelect select_on (pieces_query on_board) pieces_names
+pub select_on_is : IsSelect select_on (pieces_query (on_board ∷ [])) pieces_names
 unfolding understood everything
 select_on_is rules indexed = inl (refl, refl, (refl, refl))
 
@@ -41,7 +41,7 @@ select_of_lot = codes "SELECT p.number, p.place, p.board, p.designator, r.part, 
 abbrev pub of_lot : Term
 of_lot = op2 (Compare Eq Binary) (col 1 3) (col 0 0)
 
-pub select_of_lot_is : IsSelect select_of_lot (pieces_query of_lot) pieces_names
+pub select_of_lot_is : IsSelect select_of_lot (pieces_query (of_lot ∷ [])) pieces_names
 unfolding understood everything
 select_of_lot_is rules indexed = inl (refl, refl, (refl, refl))
 
@@ -52,9 +52,16 @@ select_overdue = codes "SELECT p.number, p.place, p.board, p.designator, r.part,
 abbrev pub is_overdue : Term
 is_overdue = op2 (Compare Eq Binary) (col 2 8) (lit (Int (pos 1)))
 
-pub select_overdue_is : IsSelect select_overdue (pieces_query is_overdue) pieces_names
+pub select_overdue_is : IsSelect select_overdue (pieces_query (is_overdue ∷ [])) pieces_names
 unfolding understood everything
 select_overdue_is rules indexed = inl (refl, refl, (refl, refl))
+
+abbrev pub select_placed : List ℕ
+select_placed = codes "SELECT p.number, p.place, p.board, p.designator, r.part, r.lot, p.reel, p.machine, p.slot, a.effective, p.overdue FROM reel r JOIN placement p ON r.reel = p.reel JOIN accepted a ON a.number = p.number ORDER BY p.number, p.place"
+
+pub select_placed_is : IsSelect select_placed (pieces_query []) pieces_names
+unfolding understood everything
+select_placed_is rules indexed = inl (refl, refl, (refl, refl))
 
 -- ---- names
 

@@ -3,7 +3,7 @@
 ghost use Rattle.std.specs.Prelude.{IfOk};
 ghost use Rattle.sqlite.specs.State.{HasCleanDisk};
 ghost use Rattle.sqlite.specs.Held.{state};
-ghost use Rattle.desk_types.specs.Placements.{overdue_of, boards_of};
+ghost use Rattle.desk_types.specs.Placements.{overdue_of, boards_of, placements_of};
 ghost use Rattle.line_traces.specs.Pieces.{pieces_on, pieces_of_lot, is_board, is_lot};
 ghost use Rattle.line_traces.specs.Committed.{FindsOfList};
 ghost use Rattle.line_tables.specs.Frames.{ReadsOnly, IsRefusedInside};
@@ -82,6 +82,21 @@ pub fn lot_pieces<S: Alter>(
         conn,
         "SELECT p.number, p.place, p.board, p.designator, r.part, r.lot, p.reel, p.machine, p.slot, a.effective, p.overdue FROM reel r JOIN placement p ON r.reel = p.reel JOIN accepted a ON a.number = p.number WHERE r.lot = ?1 ORDER BY p.number, p.place",
         &[ValueRef::Text(lot.as_bytes())],
+    )?;
+    pieces(alloc, rows.as_slice())
+}
+
+/// Returns all pieces by number, then place.
+pub fn placed_rows<S: Alter>(alloc: Global, conn: &mut Connection<S>) -> Result<PlacedRows, Error>
+    ensures pieces { HasCleanDisk (state S.Store conn.new)
+        → IfOk result (FindsOfList placements_of (state S.Store conn.old)) }
+    ensures reads { ReadsOnly S.Store conn.old conn.new }
+    ensures inside { IsRefusedInside result conn.old conn.new }
+{
+    let rows = select(
+        conn,
+        "SELECT p.number, p.place, p.board, p.designator, r.part, r.lot, p.reel, p.machine, p.slot, a.effective, p.overdue FROM reel r JOIN placement p ON r.reel = p.reel JOIN accepted a ON a.number = p.number ORDER BY p.number, p.place",
+        &[],
     )?;
     pieces(alloc, rows.as_slice())
 }

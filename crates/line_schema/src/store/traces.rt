@@ -1,9 +1,9 @@
-//! The pieces of a board, of a lot, and of overdue reels, from a store's tables. The trace indexes
-//! locate them if the working state is loaded; a trace does not load it.
+//! All pieces, and those of a board, of a lot, and of overdue reels, from a store's tables. The trace
+//! indexes locate those of a trace if the working state is loaded; a trace does not load it.
 
 ghost use Rattle.std.specs.Prelude.{◌≡◌, IfOk};
 ghost use Rattle.desk_types.specs.Id.{Name};
-ghost use Rattle.desk_types.specs.Placements.{overdue_of};
+ghost use Rattle.desk_types.specs.Placements.{overdue_of, placements_of};
 ghost use Rattle.line_traces.specs.Pieces.{board_trace, lot_trace, lot_board_names, AreConverse};
 ghost use Rattle.line_schema.specs.Stands.{ForKept};
 ghost use Rattle.line_schema.specs.Frames.{ReadsStore};
@@ -56,6 +56,15 @@ impl<S: Alter, D: KeepsRows + Drop> LineStore<S, D> {
     {
         let working = self.working.as_ref();
         Ok(line_traces::lot_boards(self.alloc, &mut self.conn, working, lot)?)
+    }
+
+    /// Returns all pieces by number, then place.
+    pub fn placed_rows(&mut self) -> Result<PlacedRows, Unavailable>
+        ensures rows { ForKept S.Store D.Stands self.old self.new
+            (λ L. IfOk result (λ pieces. pieces ≡ placements_of L.history)) }
+        ensures reads { ReadsStore S.Store D.Stands self.old self.new }
+    {
+        Ok(line_traces::placed_rows(self.alloc, &mut self.conn)?)
     }
 
     /// Returns the pieces of reels whose floor life was used up, by number, then place.
