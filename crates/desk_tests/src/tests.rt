@@ -5,6 +5,7 @@ mod book;
 mod cases;
 mod counts;
 mod desks;
+mod doubt;
 mod entries;
 mod line_texts;
 mod members;

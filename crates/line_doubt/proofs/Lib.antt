@@ -1,0 +1,15 @@
+pub mod Explaining
+pub mod Greatest
+pub mod Histories
+pub mod Joints
+pub mod Lateness
+pub mod Lists
+pub mod Near
+pub mod Nothing
+pub mod Ordering
+pub mod Passed
+pub mod Placing
+pub mod Rising
+pub mod Taking
+pub mod Tapes
+pub mod Unsettling

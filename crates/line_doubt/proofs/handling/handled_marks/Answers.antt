@@ -1,0 +1,19 @@
+use Rattle.desk_types.proofs.Common.{◌+◌, ◌++◌, ◌∙◌, ◌≡◌, ap, ap₂, arith, length, length-take-le, option_to_list, sym, take}
+use Rattle.desk_types.proofs.Common.{take-next}
+use Rattle.line_doubt.specs.Late.{handled_mark, handled_marks}
+use Rattle.line_doubt.proofs.Histories.{marks-last}
+use Rattle.line_doubt.proofs.handling.handled_marks.Goals as goal
+
+pub loop-i-preserved : goal.loop-i-preserved
+loop-i-preserved c =
+    let commands = c.args.commands.now in
+    let i = c.loop-i.i in
+    let s = c.index-commands-i.result in
+    let long = length-take-le i commands (omega arith) in
+    let number : 1 + length (take i commands) ≡ i + 1 = omega (arith, long) in
+    c.in_ok-keep.ensures
+    ∙ ap₂ (λ l o. l ++ option_to_list o) c.loop-i.invariant
+    (c.handled_mark-mark.ensures ∙ ap (λ m. handled_mark (i + 1) m (i + 1) s.command) c.get-minute.ensures.value)
+    ∙ sym (ap handled_marks (take-next commands i s (omega arith) c.index-commands-i.is)
+    ∙ marks-last (λ n s. handled_mark n s.minute n s.command) 1 (take i commands) s
+    ∙ ap (λ k. handled_marks (take i commands) ++ option_to_list (handled_mark k s.minute k s.command)) number)

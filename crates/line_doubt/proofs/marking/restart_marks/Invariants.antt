@@ -1,0 +1,7 @@
+use Rattle.desk_types.proofs.Common.{◌≡◌, take}
+use Rattle.line_doubt.specs.Sources.{restart_marks}
+use Rattle.line_doubt.proofs.marking.restart_marks.Given as goal
+
+-- The commands so far have marked.
+abbrev pub invariant-loop-i : goal.invariant-loop-i
+invariant-loop-i l = l.marks.items ≡ restart_marks (take l.i l.commands)
