@@ -8,5 +8,5 @@ mod store;
 mod texts;
 
 pub use fault::NoteFault;
-pub use restoring::{Restored, advance, restore};
+pub use restoring::{Restored, advance, command_of, restore, wrong_after};
 pub use store::BookStore;

@@ -82,7 +82,8 @@ pub fn advance<S: Alter, D: KeepsRows + Drop>(
     Ok(())
 }
 
-fn command_of<S: Alter, D: KeepsRows + Drop>(
+/// Returns the accepted command with this number. Nothing changes in the file.
+pub fn command_of<S: Alter, D: KeepsRows + Drop>(
     store: &mut LineStore<S, D>,
     number: u32,
 ) -> Result<Stamped, BookFault>
@@ -97,7 +98,8 @@ fn command_of<S: Alter, D: KeepsRows + Drop>(
     }
 }
 
-fn wrong_after(entries: u32) -> BookFault
+/// Returns the fault of a book with more rows than the entries that were read.
+pub fn wrong_after(entries: u32) -> BookFault
     ensures { result ≡ fault_after entries }
 {
     match entries.checked_add(1) {

@@ -1,3 +1,2 @@
 mod ListsOpened
-mod ListsRead
 mod Sayings

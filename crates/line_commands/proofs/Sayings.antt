@@ -7,7 +7,7 @@ use Rattle.line_answers.specs.declared.noted.Noted.{Noted}
 use Rattle.line_book.specs.declared.note.Matter.{Matter}
 use Rattle.line_http.specs.Line.{Line}
 use Rattle.line_http.specs.Rule.{said_outcome}
-use Rattle.line_commands.specs.Ends.{json_told}
+use Rattle.line_reads.specs.Ends.{json_told}
 
 pub is_json : (line : Line) (noted : Noted) (body : List ℕ) (said : Result Matter LineFault)
     → (said_outcome line noted body said).told.kind ≡ Json

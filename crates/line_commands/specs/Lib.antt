@@ -1,4 +1,2 @@
-pub mod Ends
 pub mod Noting
-pub mod Reading
 pub mod Serving

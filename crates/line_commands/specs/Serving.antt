@@ -35,7 +35,7 @@ use Rattle.book_store.specs.Opened.{HasPlace, IsFault, LeavesOpened, Opens}
 use Rattle.line_file.specs.declared.fault.ListFault.{ListFault}
 use Rattle.line_file.specs.declared.fault.ListFault.TheVariants.{History as AtHistory, Book as AtBook}
 use Rattle.line_http.specs.Line.{Line, Represents}
-use Rattle.line_commands.specs.Ends.{fault_line}
+use Rattle.line_reads.specs.Ends.{fault_line}
 use Rattle.line_commands.specs.declared.left.LineLeft.{LineLeft}
 use Rattle.line_commands.specs.declared.left.LineLeft.TheVariants.{Nothing, Unread, Refused, Lists}
 

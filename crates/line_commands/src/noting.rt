@@ -10,15 +10,14 @@ ghost use Rattle.line_http.specs.Line.{Represents};
 ghost use Rattle.line_commands.specs.Noting.{HasNoEntry, IsSaid, StaysSame};
 ghost use Rattle.line_commands.specs.Serving.{ServesLists};
 
-use crate::fault::tell_fault;
 use crate::left::LineLeft;
 use crate::lists::open_lists;
-use crate::texts::tell_json;
 use book_store::BookStore;
 use desk_commands::unavailable;
 use desk_types::Wire;
 use line_answers::Noted;
 use line_http::answer_saying;
+use line_reads::{tell_fault, tell_json};
 use sqlite::{Alter, FileFrom, Start};
 use state_rows::KeepsRows;
 use std::alloc::Global;

@@ -13,13 +13,13 @@ ghost use Rattle.line_http.specs.Line.{Represents};
 ghost use Rattle.line_http.specs.Rule.{line_rule};
 ghost use Rattle.line_commands.specs.Serving.{HasNoLists, ServesLists};
 
-use crate::fault::tell_fault;
 use crate::left::LineLeft;
 use crate::lists::open_lists;
 use book_store::BookStore;
 use desk_commands::{Clients, serve_port};
 use desk_types::Wire;
 use line_http::LineHandler;
+use line_reads::tell_fault;
 use sqlite::{Alter, FileFrom, Start};
 use state_rows::KeepsRows;
 use std::alloc::Global;

@@ -27,11 +27,11 @@ use Rattle.line_file.specs.Lists.{IsBookFault, IsSound}
 use Rattle.line_file.proofs.Kept.{found-first}
 
 -- The file has the desk's tables, and nothing before them.
-ours-there : (db : Database) → HasPlace db → IsOurs db.schema
+pub ours-there : (db : Database) → HasPlace db → IsOurs db.schema
 ours-there db (inl shelf) = record { rules = Two; layout = layout_of shelf.0; same = shelf.1 }
 ours-there db (inr only) = record { rules = Two; layout = only-ours only.0; same = only.1 }
 
-named-ours : (db : Database) → HasPlace db → is_ours db.schema ≡ true
+pub named-ours : (db : Database) → HasPlace db → is_ours db.schema ≡ true
 named-ours db (inl shelf) = is_ours_of db.schema (layout_of shelf.0) shelf.1
 named-ours db (inr only) = is_ours_of db.schema (only-ours only.0) only.1
 
@@ -40,10 +40,10 @@ module _ {F : Type 0} {g : disk.Ghosts F} (image : Image) (first conn : Held (Fi
   abbrev db : Database
   db = (file_state first).committed
 
-  sound : IsSound (file_state conn)
+  pub sound : IsSound (file_state conn)
   sound = (copied.was_clean, copied.was_open)
 
-  there : IsFoundIn image db
+  pub there : IsFoundIn image db
   there = found-first image first conn f since copied.was_clean
 
   pub named-in : {D : Type 0} (StandsFor : D → Basis → Type 0) (with_rows : Bool) (line : Line D)

@@ -1,6 +1,6 @@
-mod Closing
-mod Found
+pub mod Closing
+pub mod Found
 mod Kept
-mod Lines
+pub mod Lines
 mod Results
 mod Windows

@@ -8,7 +8,7 @@ use Rattle.line_book_store.specs.declared.fault.BookFault.{BookFault}
 use Rattle.book_store.specs.Restored.{IsWrong}
 use Rattle.line_file.specs.Lists.{IsBookFault}
 
-wrong-before : (commands : ℕ) (old mid : State) (fault : BookFault) → KeepsCommit old mid
+pub wrong-before : (commands : ℕ) (old mid : State) (fault : BookFault) → KeepsCommit old mid
     → IsWrong commands mid fault → IsWrong commands old fault
 wrong-before commands old mid fault kept (inl is) = inl is
 wrong-before commands old mid fault kept (inr (n, is, reads)) =

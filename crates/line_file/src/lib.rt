@@ -6,6 +6,6 @@ mod file;
 mod lists;
 mod store;
 
-pub use fault::ListFault;
+pub use fault::{ListFault, UNAVAILABLE};
 pub use file::read_line;
 pub use store::Line;

@@ -12,7 +12,7 @@ use Rattle.desk_words.specs.CommandLine.{IsText, Shows, ShowsNone, number_of, re
 use Rattle.line_answers.specs.declared.noted.Noted.{Noted}
 use Rattle.line_answers.specs.declared.noted.Noted.TheVariants.{Decided, Held, Released}
 use Rattle.line_words.specs.declared.command_line.LineCommand.{LineCommand}
-use Rattle.line_words.specs.declared.command_line.LineCommand.TheVariants.{Serve, Note, State, Whole, Text, Bad}
+use Rattle.line_words.specs.declared.command_line.LineCommand.TheVariants.{Serve, Note, State, Doubt, Whole, Text, Bad}
 use Rattle.line_words.specs.declared.command_line.Task.{Task}
 use Rattle.line_words.specs.declared.command_line.Task.TheVariants.{Make, Book, Audit}
 
@@ -37,6 +37,16 @@ abbrev pub state_shape : Shape
 state_shape = record (new_shape (codes "state")) {
   rules =
       required_option (codes "db") ∷ required_option (codes "machine") ∷ [];
+}
+
+-- The option `--within N`.
+abbrev pub within_rule : Rule
+within_rule = record (new_rule (codes "within")) { long = Some (codes "within"); value_names = 1 }
+
+-- `doubt` has a file, exactly once, and may have a tolerance.
+abbrev pub doubt_shape : Shape
+doubt_shape = record (new_shape (codes "doubt")) {
+  rules = required_option (codes "db") ∷ within_rule ∷ [];
 }
 
 -- `note` has a file, a kind and what is said, each exactly once.
@@ -65,11 +75,11 @@ bare = on_top (λ s. record s {
   has_version = true;
 }) (new_app (codes "tracedesk-line"))
 
--- The six commands.
+-- The seven commands.
 abbrev pub commands : App
-commands = with_subcommand (with_subcommand (with_subcommand (with_subcommand
+commands = with_subcommand (with_subcommand (with_subcommand (with_subcommand (with_subcommand
     (with_subcommand (with_subcommand bare serve_shape) (file_shape (task_name Make))) note_shape)
-    state_shape) (file_shape (task_name Book))) (file_shape (task_name Audit))
+    state_shape) (file_shape (task_name Book))) doubt_shape) (file_shape (task_name Audit))
 
 -- The text printed if the arguments are no command: help, the version, or a mistake.
 unfoldable pub told_of : List (List ℕ) → Kinds
@@ -95,6 +105,18 @@ Serves (Some text) connections =
 abbrev pub ServesNone : Option (List ℕ) → Type 0
 ServesNone None = ⊥
 ServesNone (Some text) = IsUnsignedIn 1 most_connections text → ⊥
+
+-- ---- the tolerance at a splice
+
+-- The number is that of the text, or 0 if there is no text.
+abbrev pub IsWithin : Option (List ℕ) → ℕ → Type 0
+IsWithin None within = within ≡ 0
+IsWithin (Some text) within = IsUnsignedIn 1 4294967295 text × (within ≡ number_of text)
+
+-- There is a text, and it is no such number.
+abbrev pub IsWithinNone : Option (List ℕ) → Type 0
+IsWithinNone None = ⊥
+IsWithinNone (Some text) = IsUnsignedIn 1 4294967295 text → ⊥
 
 -- ---- meaning
 
@@ -148,6 +170,13 @@ AsksForState words file machine =
     × (first_of (codes "db") rows ≡ Some file)
     × ShowsName (first_of (codes "machine") rows) machine
 
+-- The arguments mean: print the pieces in doubt by the lists of this file, with this tolerance.
+abbrev pub AsksForDoubt : List (List ℕ) → List ℕ → ℕ → Type 0
+AsksForDoubt words file within =
+    (rows : List Row) × Names words (codes "doubt") rows
+    × (first_of (codes "db") rows ≡ Some file)
+    × IsWithin (first_of (codes "within") rows) within
+
 -- The arguments mean: do this with the lists of this file.
 abbrev pub AsksForTask : List (List ℕ) → List ℕ → Task → Type 0
 AsksForTask words file task = (rows : List Row) × Names words (task_name task) rows
@@ -171,6 +200,11 @@ abbrev pub HasBadState : List Row → Type 0
 HasBadState rows =
     (first_of (codes "db") rows ≡ None) ⊎ ShowsNoName (first_of (codes "machine") rows)
 
+-- A value of `doubt` is not valid.
+abbrev pub HasBadDoubt : List Row → Type 0
+HasBadDoubt rows =
+    IsWithinNone (first_of (codes "within") rows) ⊎ (first_of (codes "db") rows ≡ None)
+
 -- A value of `note` is not valid.
 abbrev pub HasBadNote : List Row → Type 0
 HasBadNote rows = ShowsNoNoted (first_of (codes "kind") rows)
@@ -183,14 +217,16 @@ HasBadValue words =
     × ((Names words (codes "serve") rows × HasBadServing rows)
     ⊎ (Names words (codes "state") rows × HasBadState rows)
     ⊎ (Names words (codes "note") rows × HasBadNote rows)
+    ⊎ (Names words (codes "doubt") rows × HasBadDoubt rows)
     ⊎ ((task : Task) × Names words (task_name task) rows × (first_of (codes "db") rows ≡ None)))
 
--- The command is none of the six.
+-- The command is none of the seven.
 abbrev pub IsNoCommand : Option (List ℕ × List Row) → Type 0
 IsNoCommand None = ⊤
 IsNoCommand (Some named) =
     (named.0 ≢ codes "serve") × (named.0 ≢ codes "make") × (named.0 ≢ codes "note")
-    × (named.0 ≢ codes "state") × (named.0 ≢ codes "book") × (named.0 ≢ codes "audit")
+    × (named.0 ≢ codes "state") × (named.0 ≢ codes "book") × (named.0 ≢ codes "doubt")
+    × (named.0 ≢ codes "audit")
 
 -- The grammar accepts the arguments, but they name no command.
 abbrev pub NamesNone : List (List ℕ) → Type 0
@@ -207,6 +243,7 @@ Asks words (Serve file port connections) =
 Asks words (Note file noted told) =
     AsksForNote words (string_bytes file) noted (string_bytes told)
 Asks words (State file machine) = AsksForState words (string_bytes file) machine
+Asks words (Doubt file within) = AsksForDoubt words (string_bytes file) within
 Asks words (Whole file task) = AsksForTask words (string_bytes file) task
 Asks words (Text text) = AsksForText words
 Asks words (Bad text) = AsksForNothing words

@@ -7,7 +7,7 @@ ghost use Rattle.clap.specs.Simple.{app_of, shape_of, subcommand_rows_of};
 ghost use Rattle.clap.specs.Walk.{first_of, rows_of};
 ghost use Rattle.clap.specs.declared.builder.command.Command.TheViews.{out-Command};
 ghost use Rattle.desk_types.specs.Id.{IsId};
-ghost use Rattle.line_words.specs.CommandLine.{bare, commands, file_shape, named_by, note_shape, serve_shape, state_shape, task_name, told_of, Asks, IsInRange, Names, Serves, ServesNone, ShowsName, ShowsNoName, ShowsNoted, ShowsNoNoted};
+ghost use Rattle.line_words.specs.CommandLine.{bare, commands, doubt_shape, file_shape, named_by, note_shape, serve_shape, state_shape, task_name, told_of, Asks, IsInRange, IsWithin, IsWithinNone, Names, Serves, ServesNone, ShowsName, ShowsNoName, ShowsNoted, ShowsNoNoted};
 
 use clap::error::ErrorKind;
 use clap::{Arg, ArgMatches};
@@ -35,6 +35,11 @@ pub enum LineCommand {
     State {
         file: String,
         machine: Id,
+    },
+    /// Print the pieces in doubt, with a tolerance of so many pieces at each splice.
+    Doubt {
+        file: String,
+        within: u32,
     },
     /// Do something with both lists of a file.
     Whole {
@@ -66,6 +71,7 @@ Examples:
   tracedesk-line note --db line.db --kind hold --told '{\"Hold\":\"lot\",\"Name\":\"L1\",\"By\":\"A. Person\",\"Reason\":\"wrong label\"}'
   tracedesk-line state --db line.db --machine M1
   tracedesk-line book --db line.db
+  tracedesk-line doubt --db line.db --within 10
   tracedesk-line audit --db line.db
 
 Exit status:
@@ -116,6 +122,7 @@ fn command_of(alloc: Global, matches: &ArgMatches<'_>) -> Result<LineCommand, Al
         Some((name, found)) if name == "note" => note_of(alloc, found),
         Some((name, found)) if name == "state" => state_of(alloc, found),
         Some((name, found)) if name == "book" => task_of(alloc, found, Task::Book),
+        Some((name, found)) if name == "doubt" => doubt_of(alloc, found),
         Some((name, found)) if name == "audit" => task_of(alloc, found, Task::Audit),
         _ => Ok(LineCommand::Bad(no_command(alloc)?)),
     }
@@ -180,6 +187,24 @@ fn state_of(alloc: Global, found: &ArgMatches<'_>) -> Result<LineCommand, AllocE
     }
 }
 
+fn doubt_of(alloc: Global, found: &ArgMatches<'_>) -> Result<LineCommand, AllocError>
+    ensures asks { (words : List (List ℕ))
+        → Names words (codes "doubt") (rows_of (found_of found.now))
+        → IfOk result (Asks words) }
+    ensures range { IfOk result IsInRange }
+{
+    let Some(within) = within_in(found) else {
+        return Ok(LineCommand::Bad(no_number(alloc, "within", u32::MAX)?));
+    };
+    match found.get_str("db") {
+        Some(file) => Ok(LineCommand::Doubt {
+            file: String::from_str(alloc, file)?,
+            within,
+        }),
+        None => Ok(LineCommand::Bad(no_value(alloc, "db <FILE>")?)),
+    }
+}
+
 fn task_of(alloc: Global, found: &ArgMatches<'_>, task: Task) -> Result<LineCommand, AllocError>
     ensures asks { (words : List (List ℕ))
         → Names words (task_name task) (rows_of (found_of found.now))
@@ -205,6 +230,19 @@ fn connections_in(found: &ArgMatches<'_>) -> Option<u32>
     match found.get_str("connections") {
         Some(text) => numeral(text, u32::MAX),
         None => Some(u32::MAX),
+    }
+}
+
+/// Returns the tolerance at each splice, in pieces: without the option, 0.
+fn within_in(found: &ArgMatches<'_>) -> Option<u32>
+    ensures some { IfSome result
+        (IsWithin (first_of (codes "within") (rows_of (found_of found.now)))) }
+    ensures none { IsNone result
+        → IsWithinNone (first_of (codes "within") (rows_of (found_of found.now))) }
+{
+    match found.get_str("within") {
+        Some(text) => numeral(text, u32::MAX),
+        None => Some(0),
     }
 }
 
@@ -299,12 +337,13 @@ fn commands<'a>(alloc: Global) -> Result<clap::Command<'a>, AllocError>
     let with_state = with_note.subcommand(state(alloc)?)?;
     let book = of_file(alloc, "book", "Print the book as CSV")?;
     let with_book = with_state.subcommand(book)?;
+    let with_doubt = with_book.subcommand(doubt(alloc)?)?;
     let audit = of_file(
         alloc,
         "audit",
         "Check the history and the book in a file, and count both",
     )?;
-    with_book.subcommand(audit)
+    with_doubt.subcommand(audit)
 }
 
 fn bare<'a>(alloc: Global) -> Result<clap::Command<'a>, AllocError>
@@ -360,6 +399,29 @@ fn state<'a>(alloc: Global) -> Result<clap::Command<'a>, AllocError>
         "The file of the line, which nobody serves",
     )?;
     with_wanted(alloc, kept, "machine", "NAME", "The machine")
+}
+
+fn doubt<'a>(alloc: Global) -> Result<clap::Command<'a>, AllocError>
+    ensures shape { IfOk result (λ command. shape_of command ≡ doubt_shape) }
+    ensures local { IfOk result (λ command. (out-Command command).has_globals ≡ false) }
+{
+    let start = clap::Command::new(alloc, "doubt")
+        .about(
+            "Print the placed pieces that may be from another reel, each with the reason, as CSV",
+        )
+        .after_help(NOTES);
+    let kept = with_wanted(
+        alloc,
+        start,
+        "db",
+        "FILE",
+        "The file of the line, which nobody serves",
+    )?;
+    let option = Arg::new(alloc, "within")
+        .long("within")
+        .value_name("N")
+        .help("How many pieces each splice may be off, from 1 to 4294967295; without it, none");
+    kept.arg(option)
 }
 
 fn note<'a>(alloc: Global) -> Result<clap::Command<'a>, AllocError>

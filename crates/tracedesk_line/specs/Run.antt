@@ -11,14 +11,15 @@ use Rattle.desk_commands.specs.Connections.{AnswersInTurn}
 use Rattle.desk_commands.specs.Ends.{PrintEnds, ReportEnds, ServingEnds}
 use Rattle.desk_commands.specs.Told.{unavailable_line, Tells, TellsLine}
 use Rattle.line_http.specs.Rule.{line_rule}
-use Rattle.line_commands.specs.Ends.{AnswersState, Counts, HasNoLine, IsBook, counts_line}
+use Rattle.line_reads.specs.Doubts.{IsOfDoubts}
+use Rattle.line_reads.specs.Ends.{AnswersState, Counts, HasNoLine, IsBook, counts_line}
 use Rattle.line_commands.specs.Noting.{AreCounts, HasNoEntry, IsSaid}
 use Rattle.line_commands.specs.Serving.{ClosesLists, HasNoLists, ServesLists}
 use Rattle.line_commands.specs.declared.left.LineLeft.{LineLeft}
 use Rattle.line_answers.specs.declared.noted.Noted.{Noted}
 use Rattle.line_words.specs.CommandLine.{Asks, AsksForNote, AsksForServing, AsksForTask}
 use Rattle.line_words.specs.declared.command_line.LineCommand.{LineCommand}
-use Rattle.line_words.specs.declared.command_line.LineCommand.TheVariants.{Serve, Note, State, Whole, Text, Bad}
+use Rattle.line_words.specs.declared.command_line.LineCommand.TheVariants.{Serve, Note, State, Doubt, Whole, Text, Bad}
 use Rattle.line_words.specs.declared.command_line.Task.{Task}
 use Rattle.line_words.specs.declared.command_line.Task.TheVariants.{Make, Book, Audit}
 
@@ -100,6 +101,11 @@ module _ {F W E : Type 0} (g : disk.Ghosts F) (image : Image) (serves : ℕ → 
   EndsAs (Note file noted told) =
       EndsNote g image writes tells output output' errors errors' files exit noted
       (string_bytes told)
+  -- The pieces in doubt by both lists that the file held, or the fault of one.
+  EndsAs (Doubt file within) = (text : List ℕ)
+      × PrintEnds writes tells output output' errors errors' text
+      (HasNoLine g image files tells errors errors') exit
+      × ((exit ≡ 0) ⊎ (exit ≡ 4) → IsOfDoubts within g image files text)
   EndsAs (Whole file task) =
       EndsTask g image writes tells output output' errors errors' files exit task
   -- Help or the version.

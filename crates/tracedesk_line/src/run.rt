@@ -4,16 +4,14 @@ ghost use Rattle.std.specs.Prelude.{◌≡◌, ◌⊎◌, ◌<◌, ◌^◌, map,
 ghost use Rattle.sqlite_wal.specs.Files.{image_at};
 ghost use Rattle.desk_types.specs.Wire.{failures_of};
 ghost use Rattle.desk_commands.specs.Clients.{ServesAt};
-ghost use Rattle.line_commands.specs.Reading.{KeepsFile};
+ghost use Rattle.line_reads.specs.Reading.{KeepsFile};
 ghost use Rattle.line_words.specs.declared.command_line.Task.TheVariants.{Make};
 ghost use Rattle.tracedesk_line.specs.Run.{AsksToChange, AsksToServe, ClosesAs, Ends, EndsTask, HaveRoom};
 
 use desk_commands::{Clients, Exit, send_text, tell, unavailable};
 use desk_types::Wire;
-use line_commands::{
-    LineLeft, audit_lists, close_line, make_in_file, note_in_file, serve_in_file, tell_book,
-    tell_state,
-};
+use line_commands::{LineLeft, close_line, make_in_file, note_in_file, serve_in_file};
+use line_reads::{audit_lists, tell_book, tell_doubts, tell_state};
 use line_words::{LineCommand, Task, read_words};
 use sqlite::{FileFrom, Files, Start};
 use sqlite_disk::Disk;
@@ -75,6 +73,9 @@ pub fn run<T: Start, C: Clients, W: Write, E: Write>(
                 errors,
             );
             close_after(status, left, errors)
+        }
+        Ok(LineCommand::Doubt { file, within }) => {
+            tell_doubts(rt, file.as_str(), start, within, output, errors)
         }
         Ok(LineCommand::Whole { file, task }) => {
             do_task(rt, file.as_str(), task, start, output, errors)

@@ -5,7 +5,7 @@ use Rattle.http_stream.specs.Answers.{body_of, response_told, Told}
 use Rattle.http_stream.specs.declared.response.MediaType.TheVariants.{Json}
 use Rattle.line_http.specs.Line.{Represents}
 use Rattle.line_http.specs.Rule.{body_said}
-use Rattle.line_commands.specs.Ends.{json_told}
+use Rattle.line_reads.specs.Ends.{json_told}
 use Rattle.line_commands.specs.Noting.{IsSaid, saying}
 use Rattle.line_commands.proofs.Sayings.{as_json, is_json}
 use Rattle.line_commands.proofs.noting.tell_saying.Goals as goal

@@ -14,4 +14,7 @@ pub returns-in_ok-no_value-in-None-clause-asks : goal.returns-in_ok-no_value-in-
 returns-in_ok-no_value-in-None-clause-asks c = λ words names.
     let found = found_of c.args.found.now in
     let none : first_value found (codes "db") ≡ None = search rules in
-    inr (inr (rows_of found, inr (inr (inr (c.args.task, names, sym (first_value-rows found (codes "db")) ∙ none)))))
+    inr (inr (
+      rows_of found,
+      inr (inr (inr (inr (c.args.task, names, sym (first_value-rows found (codes "db")) ∙ none)))),
+    ))

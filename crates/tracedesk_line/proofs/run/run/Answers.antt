@@ -1,9 +1,9 @@
 use Rattle.desk_types.proofs.Common.{◌≡◌, arith, inl, inr, map, refl, rules, string_bytes, subst}
 use Rattle.desk_commands.proofs.EndsOfRuns.{report_follows, serving_follows}
 use Rattle.line_commands.specs.{Noting.IsSaid, Serving.ServesLists}
-use Rattle.line_words.specs.CommandLine.{AsksForNote, AsksForNothing, AsksForServing, AsksForState, AsksForTask}
-use Rattle.line_words.specs.CommandLine.{AsksForText}
-use Rattle.line_words.specs.declared.command_line.LineCommand.TheVariants.{Bad, Note, Serve, State, Text, Whole}
+use Rattle.line_words.specs.CommandLine.{AsksForDoubt, AsksForNote, AsksForNothing, AsksForServing}
+use Rattle.line_words.specs.CommandLine.{AsksForState, AsksForTask, AsksForText}
+use Rattle.line_words.specs.declared.command_line.LineCommand.TheVariants.{Bad, Doubt, Note, Serve, State, Text, Whole}
 use Rattle.sqlite_wal.specs.Files.{image_at}
 use Rattle.tracedesk_line.proofs.Served.{few, report-few}
 use Rattle.tracedesk_line.proofs.run.run.Goals as goal
@@ -76,6 +76,13 @@ returns-in-Ok-State-clause-ends g c =
     let words = map string_bytes c.args.words.now in
     let asks : AsksForState words (string_bytes asked.file) asked.machine = search rules in
     inl (State asked.file asked.machine, asks, c.tell_state.ensures.ends)
+
+pub returns-in-Ok-Doubt-clause-ends : goal.returns-in-Ok-Doubt-clause-ends
+returns-in-Ok-Doubt-clause-ends g c =
+    let asked = c.in-Ok-Doubt in
+    let words = map string_bytes c.args.words.now in
+    let asks : AsksForDoubt words (string_bytes asked.file) asked.within = search rules in
+    inl (Doubt asked.file asked.within, asks, c.tell_doubts.ensures.ends)
 
 pub returns-in-Ok-Whole-clause-ends : goal.returns-in-Ok-Whole-clause-ends
 returns-in-Ok-Whole-clause-ends g c =

@@ -1,0 +1,4 @@
+mod Closed
+mod Found
+mod Next
+mod Results
