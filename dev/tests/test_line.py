@@ -36,6 +36,7 @@ OPEN: Cause = {
     "Slot": "1",
 }
 HEADER = "n,after,kind,source,uid,machine,slot,board,reel,word,of,told,state\n"
+DOUBTS = "number,place,board,designator,part,lot,reel,machine,slot,minute,reason,of\n"
 HOLD = '{"Hold":"reel","Name":"K1","By":"A","Reason":"r"}'
 EMPTY: Cause = {"Cause": "AtSlot", "Reel": None, "Refusal": "SlotEmpty", "Slot": "1"}
 
@@ -94,6 +95,9 @@ class Files:
 
     def book(self) -> Ended:
         return self.ask("book", "--db", "line.db")
+
+    def doubt(self, *words: str) -> Ended:
+        return self.ask("doubt", "--db", "line.db", *words)
 
     def state(self, machine: str = "M") -> Ended:
         return self.ask("state", "--db", "line.db", "--machine", machine)
@@ -154,6 +158,17 @@ def test_a_book_is_printed_with_what_its_entries_ask_for(files: Files) -> None:
     assert files.book() == (0, HEADER + row.format(told, "open"), "")
     files.feed([*STARTED, "MaterialsUnloaded M 1", "MaterialsLoaded M 1 K1"])
     assert files.book() == (0, HEADER + row.format(told, ""), "")
+
+
+def test_pieces_in_doubt_are_printed_with_the_first_reason(files: Files) -> None:
+    work = [*STARTED, "MaterialsInstalled M B1 1 R1", "WorkCompleted M B1", "WorkStarted M B2"]
+    files.feed([*work, "MaterialsInstalled M B2 1 R1"])
+    assert files.doubt() == (0, DOUBTS, "")
+    files.sql(BOOK, entry(1, 8))
+    row = "10,1,B2,R1,P,L1,K1,M,1,0,entry,1\n"
+    assert files.doubt() == (0, DOUBTS + row, "")
+    files.sql("UPDATE book SET after = 3")
+    assert files.doubt("--within", "9") == (0, DOUBTS, "")
 
 
 def test_lists_that_are_missing_are_made(files: Files) -> None:
@@ -217,7 +232,7 @@ def test_no_sheet_is_for_a_machine(files: Files) -> None:
 def test_a_wrong_book_is_refused_by_name(files: Files, change: list[str], fault: str) -> None:
     files.feed(STARTED)
     files.sql(*change)
-    for ended in files.audit(), files.state(), files.book():
+    for ended in files.audit(), files.state(), files.book(), files.doubt():
         assert ended == (3, "", f"tracedesk: book {fault}\n")
     before = files.contents()
     for ended in files.run("make", "--db", "line.db"), files.note("hold", HOLD):
@@ -226,10 +241,12 @@ def test_a_wrong_book_is_refused_by_name(files: Files, change: list[str], fault:
 
 
 def test_a_wrong_history_is_refused_by_name(files: Files) -> None:
-    assert files.audit() == (3, "", "tracedesk: NotADesk\n")
+    for ended in files.audit(), files.doubt():
+        assert ended == (3, "", "tracedesk: NotADesk\n")
     files.feed(STARTED)
     files.sql("UPDATE reel SET remaining = 99, scrapped = 1")
-    assert files.audit() == (3, "", "tracedesk: TableDiffers reel\n")
+    for ended in files.audit(), files.doubt():
+        assert ended == (3, "", "tracedesk: TableDiffers reel\n")
 
 
 @pytest.mark.parametrize(
@@ -241,6 +258,8 @@ def test_a_wrong_history_is_refused_by_name(files: Files) -> None:
         ("state", "--db", "line.db", "--machine", " M"),
         ("audit", "--db", "line.db", "--machine", "M"),
         ("book", "--db", "line.db", "--after", "1"),
+        ("doubt", "--db", "line.db", "--within", "0"),
+        ("doubt", "--within", "1"),
         ("make",),
         ("note", "--db", "line.db", "--kind", "hold"),
         ("note", "--db", "line.db", "--kind", "attribute", "--told", "{}"),

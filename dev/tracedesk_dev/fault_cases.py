@@ -199,9 +199,14 @@ def migrating(asked: argparse.Namespace, case: str) -> Story:
     return Command(asked, f"migrate {case}", words, [b""], files, wanted=[b"version 2\n"])
 
 
-def auditing(asked: argparse.Namespace, case: str) -> Story:
+def lawful(asked: argparse.Namespace, case: str) -> bytes:
+    """How many commands of a case are accepted, as an audit says it."""
     answers = lines_of(asked, case, "answers.jsonl")
-    told = b"lawful %d\n" % sum(it.startswith(b'{"Answer":"Accepted"') for it in answers)
+    return b"lawful %d" % sum(it.startswith(b'{"Answer":"Accepted"') for it in answers)
+
+
+def auditing(asked: argparse.Namespace, case: str) -> Story:
+    told = lawful(asked, case) + b"\n"
     words, files = ["audit", "--db", "desk"], fed_files(asked, case)
     return Command(asked, f"audit {case}", words, [b""], files, wanted=[told])
 
@@ -226,7 +231,8 @@ def line_command(
 
 def making(asked: argparse.Namespace, case: str) -> Story:
     """The book of a desk's file that has none. Once it is made it stays, whatever fails then."""
-    story = line_command(asked, fed_files(asked, case), ["make"], b"lawful 5 book 0\n")
+    told = lawful(asked, case) + b" book 0\n"
+    story = line_command(asked, fed_files(asked, case), ["make"], told)
     story.may_be_done_unsaid = True
     return story
 
@@ -246,6 +252,10 @@ def serving(*targets: str) -> Callable[[argparse.Namespace, str], Story]:
 
 
 MOVED = "a_reel_moved_to_another_slot"
+NEAR = (  # the splice of a_splice_in_mid_board
+    b"number,place,board,designator,part,lot,reel,machine,slot,minute,reason,of\n"
+    b"10,2,B1,R2,P,L1,K1,M,1,0,splice,0\n10,3,B1,R3,P,L1,K2,M,1,0,splice,0\n"
+)
 TARGETS = (
     *("/slots?machine=M", "/reel?reel=K2", "/kit?product=PR&machine=M&boards=1"),
     *("/trace/lot?lot=L1&detail=4", "/reel?reel=K1"),
@@ -267,6 +277,7 @@ STORIES = (
     ("line make", "first_run", making),
     ("line note", "first_run", of_book("note", *HOLDING, told=b'{"Answer":"Held","Entry":1}\n')),
     ("line book", "first_run", of_book("book", told=WAITING[: WAITING.index(b"\n") + 1])),
+    ("line doubt", "a_splice_in_mid_board", of_book("doubt", "--within", "1", told=NEAR)),
 )
 
 

@@ -17,7 +17,7 @@ import time
 import urllib.parse
 from typing import Iterator
 
-from tracedesk_dev import trial
+from tracedesk_dev import line_doubts, trial
 from tracedesk_dev.line_entries import Body, Command, envelope
 from tracedesk_dev.line_model import Answer, Line, Live, text
 from tracedesk_dev.line_messages import MACHINES, Step
@@ -79,7 +79,18 @@ class Trial:
         done = subprocess.run(words, capture_output=True)
         told = f"lawful {len(self.model.history)} book {len(self.model.book)}\n"
         same("audit", (0, told.encode()), (done.returncode, done.stdout + done.stderr))
+        for within in (0, 1, 3):
+            self.doubted(within)
         self.start()
+
+    def doubted(self, within: int) -> None:
+        """The pieces in doubt of the file, which nobody serves."""
+        words = [self.line, "doubt", "--db", str(self.file)]
+        words += ["--within", str(within)] if within else []
+        done = subprocess.run(words, capture_output=True, text=True)
+        if done.returncode:
+            raise Difference(f"{words}: status {done.returncode}, {done.stderr}")
+        line_doubts.compare(self.file, within, done.stdout)
 
     # --- What has to be answered
 
