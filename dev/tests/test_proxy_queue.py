@@ -24,10 +24,12 @@ from station_site import PATIENCE, Site  # noqa: E402
 pytestmark = [pytest.mark.needs("nginx", "openssl"), pytest.mark.xdist_group("proxy")]
 TRACE = 0.1  # seconds of a long trace at the desk
 TRACES, SECONDS = 60, 6.0  # that are asked for at the same time, beside the line, and for how long
+IN_A_ROW = 500  # reports; every fifth by a new connection
+WORKERS = 4  # of nginx: one of them frees a reader's place while another one takes the next report
 
 
 class Answering(http.server.BaseHTTPRequestHandler):
-    """A desk that takes long for a trace, and no time for a message."""
+    """A desk that takes long for a trace, and no time for all else."""
 
     protocol_version = "HTTP/1.1"
     server: Desk
@@ -44,7 +46,7 @@ class Answering(http.server.BaseHTTPRequestHandler):
 
     def do_GET(self) -> None:
         with self.server.report():
-            time.sleep(TRACE)
+            time.sleep(TRACE * self.path.startswith("/trace"))
         self.reply(self.path.encode())
 
     def do_POST(self) -> None:
@@ -83,6 +85,8 @@ class Queue(Site):
         super().__init__("no-program", str(room))
         for name in ("readers", "senders"):  # whose passwords cost no time
             (self.room / "etc" / name).write_text("op:{PLAIN}op\noffice:{PLAIN}office\n")
+        own = self.room / "nginx.conf"
+        own.write_text(f"worker_processes {WORKERS}; {own.read_text()}")
         self.model = Desk(self.desk_port)
         threading.Thread(target=self.model.serve_forever, args=(0.02,), daemon=True).start()
         self.start_nginx()
@@ -159,6 +163,19 @@ def test_long_traces_hold_no_message_up(site: Queue) -> None:
     assert site.model.most == 1, "so a message waits for one report at most, on any machine"
 
 
+def test_reports_one_after_the_other_are_each_answered(site: Queue) -> None:
+    """Whatever part of nginx has not yet seen that the one before is over."""
+    client, statuses = Client(site, "office"), []
+    for number in range(IN_A_ROW):
+        if number % 5 == 0:
+            client.link.close()
+        status, headers, _ = client.ask("GET", "/overdue")
+        statuses.append(status)
+        assert headers["WWW-Authenticate"] is None
+    assert statuses == [200] * IN_A_ROW
+    assert site.model.most == 1
+
+
 def test_another_reader_and_the_station_have_their_own_place(site: Queue) -> None:
     """A report of somebody else, and a look of the station, are turned away by no long report."""
     got: list[int] = []
@@ -166,7 +183,8 @@ def test_another_reader_and_the_station_have_their_own_place(site: Queue) -> Non
     def ask(user: str, path: str) -> None:
         got.append(Client(site, user).ask("GET", path)[0])
 
-    asks = [("op", "/overdue"), ("office", "/overdue"), ("op", "/station/desk/overdue")]
+    path = "/trace/lot"
+    asks = [("op", path), ("office", path), ("op", f"/station/desk{path}")]
     threads = [threading.Thread(target=ask, args=it) for it in asks]
     for it in threads:
         it.start()
