@@ -200,7 +200,8 @@ def test_status_is_put_by_senders(site: Site) -> None:
             status,
             site.asked(method, path, user, "{}" if method == "PUT" else None)[0],
         )
-    for text, status in (('{"Waiting":0}', 201), ('{"Waiting":12}', 204)):
+    long = json.dumps({"Waiting": 1, "Said": "x" * (2 << 20)})
+    for text, status in (('{"Waiting":0}', 201), ('{"Waiting":12}', 204), (long, 204)):
         agree("a status is put", status, site.asked("PUT", STATUS, "op", text)[0])
         agree("and is there", text, (site.room / "line/status/op.json").read_text())
 

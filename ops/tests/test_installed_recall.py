@@ -54,6 +54,18 @@ def test_a_friday_at_five(anna: Recaller) -> None:
     assert "Released: L-77, on all lines of this machine." in said and held(machine) == []
 
 
+def test_recalls_of_a_worker_that_is_killed_are_run_anew(anna: Recaller) -> None:
+    """Two are asked at once. The unit starts again."""
+    asked = {
+        anna.puts("lot", lot): said for lot, said in (("L-77", "Complete"), ("L-7", "NOT FOUND"))
+    }
+    anna.waits([*asked][0], "said.txt")
+    anna.machine.shell("systemctl kill --signal=KILL tracedesk-recall-work")
+    for at, said in asked.items():
+        anna.waits(at, "ended.json")
+        assert f'id="answer">{said}: ' in anna.text(at)
+
+
 def test_no_user_reads_the_key(anna: Recaller) -> None:
     """And the page's user and the proxy's neither have something signed nor write an answer."""
     may = "runuser -u {} -- test -{} {}"

@@ -5,10 +5,12 @@ import pathlib
 from typing import Any
 
 import pytest
+from lab import files
 from lab.line import Line, table
 from lab.recalls import key_in, signers_of
 from lab.tools import Ended, Word, run_tool
-from tracedesk_ops import chains
+from tracedesk_ops import chains, firstlook
+from tracedesk_ops.catalogue import Archive
 from tracedesk_ops.firstlook import Question
 from tracedesk_ops.recalls import customers, signing
 from tracedesk_ops.recalls.evidence import sums_of
@@ -100,6 +102,18 @@ def test_a_serial_that_nobody_knows_is_named(line: Line, folder: pathlib.Path) -
 def test_no_serial_holds_none_if_not_all_were_asked(line: Line, folder: pathlib.Path) -> None:
     done = recall(line, folder, SHIPPED, "--line", "L2", folder)
     done.expect(3, "NOT COMPLETE: of your 2 serials 1 hold a piece, 0 hold none, 1 are not")
+
+
+def test_a_serial_of_any_line_that_is_asked_is_known(folder: pathlib.Path) -> None:
+    """Also of one on another computer, of which a mirror is here."""
+    recall_ = Recall(Question("lot", "L"), Surveyed([], folder), chains.Asker("none", []))
+    for name in ("here", "mirrored"):
+        path = files.desk(folder / name)
+        with files.opened(path) as database:
+            database.execute("INSERT INTO board VALUES (?, 'P', 'M1')", [name])
+        recall_.lines = [*recall_.lines, firstlook.Line(name, folder)]
+        recall_.files[name] = [Archive(name, "", name, 0, 0, 0, path)]
+    assert customers.unknown(recall_, ["here", "mirrored", "elsewhere"]) == {"elsewhere"}
 
 
 UNDECIDED = ["L1", "", "M", "SN-2", "", "", "", "", "id", "", "", "", ""]

@@ -1,5 +1,5 @@
-"""The commands of docs/verify.md at a customer's, where nothing of ours is: a folder with a shell,
-ssh-keygen and sha256sum alone.
+"""The commands of docs/verify.md at a customer's, over that customer's evidence, where nothing of ours
+is: a folder with a shell, ssh-keygen and sha256sum alone.
 
     TRACEDESK_CUSTOMER_ROOT=/srv/debian /usr/bin/python3 -m pytest
     ops/tests/test_verify_elsewhere.py
@@ -66,7 +66,9 @@ class Customer:
         self.key = folder / "plant"
         run(["ssh-keygen", "-q", "-t", "ed25519", "-N", "", "-f", self.key]).expect()
         self.signers = f'plant namespaces="tracedesk-recall" {self.public()}'
+        (folder / "shipped.csv").write_text("board,customer,date\nSN-1,A,2026-03-09\n")
         words: list[Word] = ["--key", self.key, "--evidence", self.evidence]
+        words += ["--shipped", folder / "shipped.csv", "--customer", "A"]
         line.recall(*words, lot="240131").expect()
         self.shell = shutil.which("sh") or "/bin/sh"
 

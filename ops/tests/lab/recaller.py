@@ -46,14 +46,22 @@ class Recaller:
 
     def asks(self, kind: str, names: str, **more: str) -> str:
         """Fills in the form, and waits for the answer; its address."""
+        at = self.puts(kind, names, **more)
+        self.waits(at, "ended.json")
+        return at
+
+    def waits(self, at: str, file: str) -> None:
+        """Until the folder of an answer has this file."""
+        there = f"ls {self.folder(at)} 2> /dev/null || true"
+        wait_for(file, lambda: file in self.machine.shell(there), LONGEST)
+
+    def puts(self, kind: str, names: str, **more: str) -> str:
+        """Fills in the form; where the answer will be."""
         form = {"kind": kind, "names": names, "part": "", **more}
         words = shlex.join(word for its in form.items() for word in ("-F", "=".join(its)))
         told = self.machine.by_client(f"{CURL} {words} {URL}/recall/").split()
         assert told[0] == "303", self.machine.by_client("cat /tmp/body")
-        at = f"/recall/{told[1].rstrip('/').rpartition('/')[2]}/"  # curl adds the log-in
-        ended = f"ls {self.folder(at)} 2> /dev/null || true"
-        wait_for("the answer", lambda: "ended.json" in self.machine.shell(ended), LONGEST)
-        return at
+        return f"/recall/{told[1].rstrip('/').rpartition('/')[2]}/"  # curl adds the log-in
 
     def folder(self, at: str) -> str:
         """Where the answer is on the machine."""
