@@ -1,5 +1,6 @@
-"""A recall of lots, reels and boards over two lines is what the program reports of each file."""
-import concurrent.futures
+"""A recall over two lines: what tracedesk-chain may answer, and what may change meanwhile. That it
+is what the program reports of each file is shown in test_three_ways.py.
+"""
 import itertools
 import os
 import pathlib
@@ -16,7 +17,6 @@ from tracedesk_ops.recalls.recall import twice
 pytestmark = [pytest.mark.xdist_group("recall")]
 
 CHANGED = "its files were changed meanwhile, as by a roll-over or a restore: ask again"
-ALL = [pytest.param(24, id="some"), pytest.param(1, id="all", marks=pytest.mark.whole)]
 # a tracedesk-chain that ends otherwise: how, and what a recall says then
 ENDS = {
     "exit 1": ("differs minute 1 2", "its files are no chain: L1-1: differs minute 1 2"),
@@ -31,16 +31,6 @@ ENDS = {
 @pytest.fixture(scope="module")
 def asking(world: World, tmp_path_factory: pytest.TempPathFactory) -> Asking:
     return Asking(world.lines, tmp_path_factory.mktemp("copies"))
-
-
-@pytest.mark.parametrize("every", ALL)
-@pytest.mark.parametrize("kind", ["lot", "reel", "board"])
-def test_pieces_and_what_is_left_are_those_of_the_files(
-    asking: Asking, kind: str, every: int
-) -> None:
-    names = asking.names(kind)[::every]
-    with concurrent.futures.ThreadPoolExecutor(2) as threads:
-        assert sum(threads.map(lambda name: asking.expect_right(kind, name), names))
 
 
 @pytest.mark.parametrize("column", ["file", "line"])

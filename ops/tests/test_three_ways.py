@@ -14,7 +14,7 @@ from lab import databases, messages, plants
 from lab.databases import Database
 from lab.desk import rows_of_archive
 from lab.plants import WorkedLine
-from lab.recalls import BOARD_TRACE, KINDS, TRACE, Asking, Rows
+from lab.recalls import BOARD_TRACE, KINDS, TRACE, Asking, Rows, expect_boards
 from tracedesk_dev import postgres, shift
 
 pytestmark = [pytest.mark.xdist_group("three_ways")]
@@ -87,9 +87,15 @@ def again(server: postgres.Server, whole: Database) -> Iterator[Database]:
 
 
 def expect_same(asking: Asking, database: Database, kind: str, name: str) -> Rows:
-    """The pieces of a name, if all print the same, row by row."""
+    """The pieces of a name, if all print the same, row by row. What the tool says of boards and
+    reels follows from the files.
+    """
     columns = BOARD_TRACE if kind == "board" else TRACE
-    by_tool = asking.tables(kind, name)["pieces"]
+    tables = asking.tables(kind, name)
+    by_tool = tables["pieces"]
+    expect_boards(tables)
+    if kind != "board":
+        asking.expect_reels(kind, name, tables["reels"])
     by_plant = plants.as_recalled(asking.lines, database.query("pieces", **{kind: name}).rows)
     by_report = sorted(
         (line, file, *row) for line, file, rows in asking.wanted(kind, name) for row in rows
@@ -99,7 +105,8 @@ def expect_same(asking: Asking, database: Database, kind: str, name: str) -> Row
         assert sorted(got) == by_report, f"{kind} {name}"
     for row in by_plant:
         minutes = asking.minutes[row["line"], row["file"]]
-        assert row["minute"] == minutes[row["board"], row["designator"]], row
+        minute = minutes[row["board"], row["designator"]]
+        assert (row["minute"], row[kind]) == (minute, name), row
     assert by_tool == by_plant, f"{kind} {name}"
     return by_plant
 

@@ -197,18 +197,6 @@ class Asking:
                 ]
             yield line, file_name, sorted(tuple(row.values()) for row in told)
 
-    def expect_pieces(self, kind: str, name: str, pieces: Rows) -> None:
-        """Looks whether these are the pieces that the program reports, with their minutes."""
-        columns = BOARD_TRACE if kind == "board" else TRACE
-        by_file: dict[tuple[str, str], list[tuple[str, ...]]] = collections.defaultdict(list)
-        for row in pieces:
-            by_file[row["line"], row["file"]].append(tuple(row[column] for column in columns))
-            minute = self.minutes[row["line"], row["file"]][row["board"], row["designator"]]
-            assert (row["minute"], row[kind]) == (minute, name), row
-        for line, file, wanted in self.wanted(kind, name):
-            assert sorted(by_file.pop((line, file), [])) == wanted, f"{kind} {name}, {line} {file}"
-        assert not by_file, f"{kind} {name}"
-
     def expect_reels(self, kind: str, name: str, reels: Rows) -> None:
         """Looks whether these are the reels that have something left."""
         left = [
@@ -218,15 +206,6 @@ class Asking:
         ]
         got = [[row["line"], *list(row.values())[:7]] for row in reels]
         assert sorted(got) == sorted(left), f"{kind} {name}"
-
-    def expect_right(self, kind: str, name: str) -> int:
-        """Looks whether all that the tool says of a name is right; how many pieces it has."""
-        tables = self.tables(kind, name)
-        self.expect_pieces(kind, name, tables["pieces"])
-        expect_boards(tables)
-        if kind != "board":
-            self.expect_reels(kind, name, tables["reels"])
-        return len(tables["pieces"])
 
 
 def expect_boards(tables: Tables) -> None:
