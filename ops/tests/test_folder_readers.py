@@ -31,15 +31,11 @@ def line(folder: Path) -> LineFolder:
     return line
 
 
-def survey(line: LineFolder) -> around.Survey:
-    return around.survey(line, line.name)
-
-
 def test_an_archive_that_is_missing_is_named_and_the_others_are_asked(line: LineFolder) -> None:
     rolled_over(line)
-    first, second = survey(line).archives
+    first, second = around.survey(line).archives
     (line.sealed / first.file).unlink()
-    found = survey(line)
+    found = around.survey(line)
     assert found.archives == [second]
     assert any(f"{first.file} is missing" in fault for fault in found.faults)
 
@@ -47,10 +43,10 @@ def test_an_archive_that_is_missing_is_named_and_the_others_are_asked(line: Line
 def test_a_file_before_a_gap_is_asked(line: LineFolder, folder: Path) -> None:
     """No file that is there was begun from it, and the running desk doesn't have it."""
     rolled_over(line)
-    first, second = survey(line).archives
+    first, second = around.survey(line).archives
     for path in {*line.sealed.iterdir()} - {line.sealed / first.file}:
         path.unlink()
-    found = around.survey(line, line.name, room=folder)
+    found = around.survey(line, room=folder)
     assert [file.file for file in found.archives] == [first.file]
     assert any(f"{second.file} is missing" in fault for fault in found.faults)
 
@@ -60,7 +56,7 @@ def test_without_a_desk_the_newest_file_stands_for_it(line: LineFolder) -> None:
     files.accept(line.desk, ["c"])
     newest = seal(line)
     line.desk.unlink()
-    found = survey(line)
+    found = around.survey(line)
     assert found.last and found.last.file == newest.path.name and not found.faults
 
 
@@ -74,7 +70,7 @@ def test_desks_that_changed_places_are_named(folder: Path) -> None:
     second.rename(first)
     (folder / "between").rename(second)
     for line in both:
-        assert any("1 commands of S are in" in fault for fault in survey(line).faults)
+        assert any("1 commands of S are in" in fault for fault in around.survey(line).faults)
 
 
 # --- The watch

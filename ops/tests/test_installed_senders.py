@@ -17,7 +17,7 @@ from tracedesk_ops import around, copies, line, sealed
 folder = line.LineFolder(pathlib.Path("{archive}").parent)
 query = "SELECT uid FROM accepted WHERE uid LIKE '{uids}' AND command LIKE 'PartDefined%'"
 found = []
-archives = around.survey(folder, "L1", sealed.named).archives
+archives = around.survey(folder, sealed.named).archives
 for file in [*(folder.sealed / its.file for its in archives), folder.desk]:
     with copies.opened(file) as database:
         found += [uid for (uid,) in database.execute(query)]

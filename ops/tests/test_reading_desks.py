@@ -17,7 +17,7 @@ from lab.line import Line, NewLine
 from lab.messages import FIRST_LINE
 from lab.tools import Ended, Word, run, run_changed, tool
 from tracedesk_dev import begun
-from tracedesk_ops import catalogue, doubts, plant, sealed
+from tracedesk_ops import doubts, plant, sealed
 
 TARGET = "/slots?machine=M"
 SLOTS_HEADER = "slot,position,reel,part,lot,remaining,minutes_left\n"
@@ -135,8 +135,7 @@ def test_one_archive_is_open_at_a_time(
     archives.mkdir(parents=True)
     rows = []
     for number in range(4):
-        file = shutil.copy(desk.file, archives / f"L1-{number}")
-        rows.append(catalogue.Archive(file.name, "", "L1", 0, 0, 1))
+        rows.append(shutil.copy(desk.file, archives / f"L1-{number}"))
     counts, opened = [0], sealed.opened
 
     @contextlib.contextmanager

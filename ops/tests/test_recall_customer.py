@@ -106,13 +106,14 @@ def test_no_serial_holds_none_if_not_all_were_asked(line: Line, folder: pathlib.
 
 def test_a_serial_of_any_line_that_is_asked_is_known(folder: pathlib.Path) -> None:
     """Also of one on another computer, of which a mirror is here."""
-    recall_ = Recall(Question("lot", "L"), Surveyed([], folder), chains.Asker("none", []))
+    those = Surveyed([], folder)
     for name in ("here", "mirrored"):
         path = files.desk(folder / name)
         with files.opened(path) as database:
             database.execute("INSERT INTO board VALUES (?, 'P', 'M1')", [name])
-        recall_.lines = [*recall_.lines, firstlook.Line(name, folder)]
-        recall_.files[name] = [Archive(name, "", name, 0, 0, 0, path)]
+        those.lines = [*those.lines, firstlook.Line(name, folder)]
+        those.files[name] = [Archive(path, "", 0, 0)]
+    recall_ = Recall(Question("lot", "L"), those, chains.Asker("none", []))
     assert customers.unknown(recall_, ["here", "mirrored", "elsewhere"]) == {"elsewhere"}
 
 

@@ -265,8 +265,8 @@ def test_six_hundred_files_want_few_descriptors(folder: Path) -> None:
         found = lineage.of(line)
         lacked = lineage.lacking(found.chain, found.files)
         line.desk.unlink()
-        asked = around.survey(line, "L1")
-        known = doubts.look(line.path, asked.archives)
+        asked = around.survey(line)
+        known = doubts.look(line.path, [it.path for it in asked.archives])
     finally:
         resource.setrlimit(resource.RLIMIT_NOFILE, was)
     assert len(found.chain) == FILES and not found.faults and not lacked

@@ -5,7 +5,7 @@ The desk in the folder says from which file it was begun. What other files have 
 has not is lacking, also if one of them went on from the same file. Without a desk, as in a mirror,
 the newest sealed file stands for it.
 
-    survey(LineFolder(pathlib.Path("/var/lib/tracedesk/L1")), "L1").archives
+    survey(LineFolder(pathlib.Path("/var/lib/tracedesk/L1"))).archives
 """
 from __future__ import annotations
 
@@ -23,7 +23,7 @@ from tracedesk_ops.sealed import FilesFault, Sealed
 Path = pathlib.Path
 Read = Callable[[Path], Sealed]
 
-ENDS = "SELECT min(effective), max(effective) FROM accepted"
+LAST = "SELECT coalesce(max(effective), 0) FROM accepted"
 
 
 class Survey(NamedTuple):
@@ -38,9 +38,7 @@ class Survey(NamedTuple):
     desk: Archive | None = None
 
 
-def survey(
-    line: LineFolder, name: str, read: Read = sealed.read, room: Path | None = None
-) -> Survey:
+def survey(line: LineFolder, read: Read = sealed.read, room: Path | None = None) -> Survey:
     """Reads and compares the files of a line. A copy of its desk is left in a room, if one is
     given.
     """
@@ -53,7 +51,7 @@ def survey(
     )
     try:
         with desk_now(line.desk, room) as desk:
-            running = row_of(desk, name) if desk and room else None
+            running = row_of(desk) if desk and room else None
             members = history(desk, there, lost)
             if members:
                 faults += (its.text() for its in lineage.lacking(members, [*lost, *there]))
@@ -63,15 +61,14 @@ def survey(
         now = [desk] if desk and room else []
         # what the desk has is asked with it
         tops = lineage.tops(there, now) if now or not line.desk.exists() else []
-        rows = [row_of(file, name) for file in begun_from(there, begun_now(line.desk), tops)]
+        rows = [*map(row_of, begun_from(there, begun_now(line.desk), tops))]
         rows.sort(key=lambda row: row.last_minute)  # over a gap time alone has an order
         return Survey(rows, None, [*faults, str(fault)], running)
     if desk:
         members.pop()
     elif members and members[-1].digits not in {file.begun for file in there}:
         last = members.pop()
-    rows = [row_of(file, name) for file in members]
-    return Survey(rows, row_of(last, name) if last else None, faults, running)
+    return Survey([*map(row_of, members)], row_of(last) if last else None, faults, running)
 
 
 def history(desk: Sealed | None, there: list[Sealed], lost: list[Sealed]) -> list[Sealed]:
@@ -137,9 +134,7 @@ def desk_now(desk: Path, room: Path | None = None) -> Iterator[Sealed | None]:
         yield sealed.read_of(copy, files.sha256_of(copy) if room else "")
 
 
-def row_of(file: Sealed, name: str) -> Archive:
+def row_of(file: Sealed) -> Archive:
     with sealed.opened(file.path) as database:
-        ((first, last),) = copies.rows(database, ENDS)
-    path = file.path if file.path.name == RUNNING else None
-    its = file.path.name, file.sha256, name, first or 0, last or 0, file.commands
-    return Archive(*its, path)
+        ((last,),) = copies.rows(database, LAST)
+    return Archive(file.path, file.sha256, last, file.commands)

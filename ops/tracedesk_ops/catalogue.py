@@ -1,4 +1,4 @@
-"""The sealed files of a line, as around.py finds them in its folder, and minutes as texts.
+"""The files of a line that are asked, as around.py finds them in its folder, and minutes as texts.
 
     spelled(29544840)      # 2026-03-05T14:00:00Z
 """
@@ -16,7 +16,6 @@ from collections.abc import Iterable, Iterator
 from typing import Any, NamedTuple
 
 from tracedesk_ops import sealed
-from tracedesk_ops.line import LineFolder
 
 RUNNING = "running desk"  # in the place of an archive's name
 EPOCH = datetime.datetime(1970, 1, 1)
@@ -28,18 +27,19 @@ class CatalogueError(Exception):
 
 
 class Archive(NamedTuple):
-    """A sealed file that a desk went on from; minutes are whole minutes since 1970-01-01T00:00Z.
-    `sha256` is its checksum, or the digits of it in the file's name, if that is believed. A copy of
-    the running desk has RUNNING for a name, and lies at `path`.
+    """A sealed file that a desk went on from, or a copy of the running one, which has RUNNING for a
+    name. `sha256` is its checksum, or the digits of it in the file's name, if that is believed.
+    Minutes are whole minutes since 1970-01-01T00:00Z.
     """
 
-    file: str
+    path: pathlib.Path
     sha256: str
-    line: str
-    first_minute: int
     last_minute: int
     commands: int
-    path: pathlib.Path | None = None
+
+    @property
+    def file(self) -> str:
+        return self.path.name
 
 
 def spelled(minute: int) -> str:
@@ -57,27 +57,26 @@ def minute_of(text: str) -> int:
 # --- The archives themselves
 
 
-def path_of(folder: pathlib.Path, archive: Archive) -> pathlib.Path:
-    """Where a sealed file of a line's folder lies, or the copy of its desk."""
-    return archive.path or LineFolder(folder).sealed / archive.file
-
-
 @contextlib.contextmanager
-def unchanged(folder: pathlib.Path, archive: Archive) -> Iterator[sqlite3.Connection]:
-    """A sealed file of a line's folder, as a database; it stops if the file changes meanwhile."""
-    file = path_of(folder, archive)
+def unchanged(file: pathlib.Path) -> Iterator[sqlite3.Connection]:
+    """A sealed file, as a database; it stops if the file changes meanwhile."""
     try:
-        before = os.stat(file)
+        before = state_of(file)
         with sealed.opened(file) as database:
             yield database
-        after = os.stat(file)
+        after = state_of(file)
     except OSError as fault:
         raise CatalogueError(f"{file}: it can't be read: {fault.strerror}") from fault
     except sqlite3.Error as fault:
         raise CatalogueError(f"{file}: {fault}") from fault
-    stays = ("st_dev", "st_ino", "st_size", "st_mtime_ns")
-    if any(getattr(before, name) != getattr(after, name) for name in stays):
+    if after != before:
         raise CatalogueError(f"{file}: it was changed while it was asked: ask again")
+
+
+def state_of(file: pathlib.Path) -> tuple[int, int, int, int]:
+    """What stays the same of a file that nobody changes."""
+    it = os.stat(file)
+    return it.st_dev, it.st_ino, it.st_size, it.st_mtime_ns
 
 
 def printable(text: str) -> str:

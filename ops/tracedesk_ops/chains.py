@@ -24,7 +24,7 @@ import tempfile
 from collections.abc import Iterable, Iterator, Sequence
 from typing import IO, Any
 
-from tracedesk_ops import plant, sealed
+from tracedesk_ops import catalogue, plant, sealed
 from tracedesk_ops.files import Room
 
 # statuses of the program: no chain; the first file was begun from another
@@ -157,13 +157,13 @@ def printed(chain: str, words: list[str], file: pathlib.Path, out: IO[bytes]) ->
 def copies_of(chain: str, files: Files) -> Iterator[tuple[plant.Program, Files]]:
     """The program, and copies of files that it may open; a Fault if a file changes meanwhile."""
     run = plant.Program(chain, files[0])
-    before = [state_of(it) for it in files]
+    before = [*map(catalogue.state_of, files)]
     with Room() as room:
         what = "copies of the files: TMPDIR names another folder"
         plant.want_room(room, sum(os.stat(it).st_size for it in files), what)
         run.give(room)
         yield run, [copied(run, it, pathlib.Path(room, str(n))) for n, it in enumerate(files, 1)]
-    if changed := [it for it, then in zip(files, before) if state_of(it) != then]:
+    if changed := [it for it, then in zip(files, before) if catalogue.state_of(it) != then]:
         raise plant.Fault(f"{changed[0]}: it was changed while it was asked: ask again")
 
 
@@ -215,8 +215,3 @@ def copied(run: plant.Program, file: pathlib.Path, folder: pathlib.Path) -> path
     run.give(folder)
     run.give(to)
     return to
-
-
-def state_of(file: pathlib.Path) -> tuple[int, int, int, int]:
-    it = os.stat(file)
-    return it.st_dev, it.st_ino, it.st_size, it.st_mtime_ns

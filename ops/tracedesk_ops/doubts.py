@@ -47,7 +47,7 @@ class Doubts(NamedTuple):
 
 
 def look(
-    folder: pathlib.Path, archives: list[catalogue.Archive], question: Question | None = None
+    folder: pathlib.Path, paths: Iterable[pathlib.Path], question: Question | None = None
 ) -> Doubts:
     """Looks at what is around a line's files, which are in the order of their chain, and what their
     books say; at splices if a question has a tolerance.
@@ -57,7 +57,7 @@ def look(
     faults = [*older(folder), *waiting(folder / model.STATUS)]
     try:
         files: dict[str, Opener] = {
-            it.file: functools.partial(catalogue.unchanged, folder, it) for it in archives
+            it.name: functools.partial(catalogue.unchanged, it) for it in paths
         }
         read(files, tapes, books)
         works = map(work_of, filter(untraced.is_work, books.entries))

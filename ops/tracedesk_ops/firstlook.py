@@ -95,11 +95,11 @@ class ReelLeft(NamedTuple):
     minute: int | None
 
 
-def is_known(line: Line, archive: catalogue.Archive, question: Question) -> bool:
-    """Whether a file of a line knows the name."""
+def is_known(file: pathlib.Path, question: Question) -> bool:
+    """Whether a file knows the name."""
     where, values = question.sql()
     query = KNOWN.format("board" if question.kind == "board" else "reel", where)
-    with sealed.opened(catalogue.path_of(line.folder, archive)) as database:
+    with sealed.opened(file) as database:
         return bool(copies.rows(database, query, *values))
 
 

@@ -193,10 +193,7 @@ def is_continued(
 
 def said_of(line: str, folder: pathlib.Path, found: lineage.Lineage) -> Iterator[Doubt]:
     """What a recall has to say of a line besides its pieces."""
-    archives = [
-        catalogue.Archive(file.path.name, file.sha256, line, 0, 0, 0) for file in found.chain
-    ]
-    its = doubts.look(folder, archives)
+    its = doubts.look(folder, [file.path for file in found.chain])
     for text in (*its.faults, *(lacked.text() for lacked in found.lacked)):
         yield f"{line}: {text}", "", ANY, [], []
     for record, by, reels in its.works:

@@ -311,7 +311,7 @@ class Histories(RuleBasedStateMachine):
         """A recall asks the files behind the desk, and says what its history lacks."""
         if not hasattr(self, "hosts"):
             return
-        found = around.survey(self.line, "L1")
+        found = around.survey(self.line)
         if self.damaged:
             assert found.faults, "a damaged file is not named"
             return

@@ -33,7 +33,7 @@ import pathlib, sys
 sys.path.insert(0, "/usr/lib/tracedesk")
 from tracedesk_ops import around, line, sealed
 folder = line.LineFolder(pathlib.Path("/var/lib/tracedesk"))
-print(*(archive.file for archive in around.survey(folder, "L1", sealed.named).archives))
+print(*(archive.file for archive in around.survey(folder, sealed.named).archives))
 END
 """
 SECOND = blocks_of(ROOT / "docs/line-folder.md", "test_installed_two.py")

@@ -78,7 +78,7 @@ class Line(Desk):
 
     def archives(self) -> list[catalogue.Archive]:
         """The archives, the oldest first."""
-        return around.survey(LineFolder(self.folder), self.name, sealed.named).archives
+        return around.survey(LineFolder(self.folder), sealed.named).archives
 
     def newest(self) -> pathlib.Path:
         """The newest sealed file."""
@@ -86,7 +86,7 @@ class Line(Desk):
 
     def files(self) -> list[pathlib.Path]:
         """The files of all archives, and of the running desk."""
-        return [*(catalogue.path_of(self.folder, it) for it in self.archives()), self.file]
+        return [*(it.path for it in self.archives()), self.file]
 
     def uids(self) -> "collections.Counter[str]":
         """The UniqueIDs of all commands that no roll-over made, and how many desks have each."""

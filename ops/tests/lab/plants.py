@@ -12,7 +12,7 @@ from lab.databases import Database
 from lab.line import Line
 from lab.recalls import Asked
 from lab.world import RUNNING
-from tracedesk_ops import catalogue, doubts, entries, untraced
+from tracedesk_ops import doubts, entries, untraced
 
 PIECES = "line, file, board, designator, part, lot, reel, machine, slot, overdue, at"
 TABLES = {
@@ -88,7 +88,7 @@ class WorkedLine(Line):
     @property
     def archived(self) -> list[pathlib.Path]:
         """The archives' files, oldest first."""
-        return [catalogue.path_of(self.folder, archive) for archive in self.archives()]
+        return [archive.path for archive in self.archives()]
 
     def named_files(self) -> dict[str, pathlib.Path]:
         return {**{file.name: file for file in self.archived}, RUNNING: self.last}

@@ -182,7 +182,7 @@ class Batch:
             reels = "".join(f"{reel}\n" for run in self.runs for reel in run.reels)
             (self.room / "reels").write_text(reels)
             self.chain = AskedOnce(str(self.place.program), self.room / "reels")
-            desk = around.survey(LineFolder(self.place.folder), LINE, room=self.room)
+            desk = around.survey(LineFolder(self.place.folder), room=self.room)
             for owner, name, its in (
                 (around, "survey", lambda *_, **__: desk),
                 (doubts, "look", looked),
@@ -251,10 +251,7 @@ class Batch:
     def show(self, run: Run, its: Any) -> None:
         """Prints what the files have of a run's machine, what was refused, and what really
         happened."""
-        archives = {
-            archive.file: catalogue.path_of(self.place.folder, archive)
-            for archive in self.place.archives()
-        }
+        archives = {archive.file: archive.path for archive in self.place.archives()}
         print(f"--- {run.name}")
         with contextlib.ExitStack() as held:
             databases = {

@@ -6,7 +6,7 @@ import sqlite3
 from collections.abc import Iterable
 from typing import Any
 
-from tracedesk_ops import catalogue, copies, sealed
+from tracedesk_ops import copies, sealed
 from tracedesk_ops.recalls import tables, wording
 from tracedesk_ops.recalls.recall import Recall
 from tracedesk_ops.recalls.tables import Shipped, Table
@@ -31,11 +31,9 @@ def serials_of(shipped: Shipped, customer: str) -> dict[str, str]:
 def unknown(recall: Recall, serials: Iterable[str]) -> set[str]:
     """The serials that no file of the lines knows."""
     left = set(serials)
-    for line in recall.lines:
-        for archive in recall.files[line.name] if left else ():
-            with contextlib.suppress(OSError, sqlite3.Error):
-                with sealed.opened(catalogue.path_of(line.folder, archive)) as database:
-                    left -= {its for its in left if copies.rows(database, KNOWN, its)}
+    for _, file in recall.those.paths() if left else ():
+        with contextlib.suppress(OSError, sqlite3.Error), sealed.opened(file) as database:
+            left -= {its for its in left if copies.rows(database, KNOWN, its)}
     return left
 
 

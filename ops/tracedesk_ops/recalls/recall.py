@@ -73,24 +73,24 @@ class Recall:
         """
         its = [Asked(line.name, file, []) for file in self.files[line.name]]
         try:
-            answer = self.said_of(line, its) if its else chains.NOTHING
+            answer = self.said_of(its) if its else chains.NOTHING
             return Answered(its, options=answer.options)
         except NO_ANSWER as fault:
-            return Answered([self.alone(line, it) for it in its], fault)
+            return Answered([*map(self.alone, its)], fault)
 
-    def said_of(self, line: Line, those: list[Asked], is_middle: bool = False) -> chains.Answer:
+    def said_of(self, those: list[Asked], is_middle: bool = False) -> chains.Answer:
         """What tracedesk-chain answers about files, each of which gets its pieces."""
-        paths = [catalogue.path_of(line.folder, it.file) for it in those]
+        paths = [it.file.path for it in those]
         digits = [it.file.sha256[: model.DIGITS] for it in those]
         answer = self.chain.ask(paths, digits, is_middle)
         for row in answer.rows:
             those[row.pop("file")].pieces.append(row)
         return answer
 
-    def alone(self, line: Line, its: Asked) -> Asked:
+    def alone(self, its: Asked) -> Asked:
         """A file that is asked by itself."""
         try:
-            self.said_of(line, [its], is_middle=True)
+            self.said_of([its], is_middle=True)
         except NO_ANSWER as fault:
             return its._replace(why=str(fault))
         return its
@@ -112,7 +112,7 @@ class Recall:
                 row |= {"minute": int(row["minute"]), "line": line.name, "file": file.file}
                 self.pieces.append(Piece(**row))
             try:
-                self.known |= bool(rows) or firstlook.is_known(line, file, self.question)
+                self.known |= bool(rows) or firstlook.is_known(file.path, self.question)
             except sqlite3.Error as fault:
                 self.faults.append(f"{line.name}: {file.file}: {fault}")
         if answer.files:
@@ -122,7 +122,7 @@ class Recall:
         """Takes what is left of the lot or reel by the newest file."""
         minute = None if newest.file == RUNNING else newest.last_minute
         try:
-            with sealed.opened(catalogue.path_of(line.folder, newest)) as database:
+            with sealed.opened(newest.path) as database:
                 self.reels += firstlook.left_in(database, line, self.question, minute)
         except sqlite3.Error as fault:
             self.faults.append(f"{line.name}: {newest.file}: {fault}")
@@ -142,7 +142,8 @@ class Recall:
         the pieces of the question that may be of another reel.
         """
         name = line.name
-        its = doubts.look(line.folder, self.files[name], self.question)
+        paths = [it.path for it in self.files[name]]
+        its = doubts.look(line.folder, paths, self.question)
         self.faults += its.faults
         for it, by, reels in its.works:
             said = untraced.said(it)[2:9]

@@ -41,7 +41,7 @@ class Surveyed:
         """Each file, with its line's name."""
         for line in self.lines:
             for file in self.files[line.name]:
-                yield line.name, catalogue.path_of(line.folder, file)
+                yield line.name, file.path
 
     def is_as_before(self, line: Line) -> bool:
         return around.stamp(LineFolder(line.folder)) == self.stamps[line.name]
@@ -54,7 +54,7 @@ class Surveyed:
         its, room = LineFolder(line.folder), self.room / str(len(self.files))
         room.mkdir()
         self.stamps[line.name] = around.stamp(its)
-        survey = around.survey(its, line.name, room=room)
+        survey = around.survey(its, room=room)
         newest = survey.desk or survey.last
         self.files[line.name] = [*survey.archives, *([newest] if newest else [])]
         self.faults += survey.faults
