@@ -81,7 +81,7 @@ def test_a_mirror_without_such_a_reel_is_not_complete(line: Line, folder: pathli
 
 
 def test_reels_whose_receipts_say_no_attribute_are_named(line: Line) -> None:
-    recall(line, "where", "date_code=2614", "part=CAP").expect(3, "K-1, K-3, K-4")
+    recall(line, "where", "date_code=2614", "--part", "CAP").expect(3, "K-1, K-3, K-4")
 
 
 @pytest.mark.parametrize("words", ["reel K-1", "lot L-77 L-78", "where lot=L-77"])

@@ -4,7 +4,7 @@ tracedesk-ops.
 It opens each file as an audit does: for writing, with a log beside it. Nobody writes a sealed file,
 so it gets copies, as the file's owner where root calls.
 
-    chains.asked(chain, ["check"], [path for path in archives], archives).ends
+    chains.asked(chain, ["lot", "L-77", "--pieces"], paths, digits).rows
 
 Each desk names the file from which it was begun, by its checksum. After a roll-over with an option
 it doesn't carry that on as it was. Then the program is asked about the files before and behind this
@@ -33,7 +33,7 @@ OPTION = re.compile(
     ": differs (minute|slot|board .* in work old)"
 )  # what --at and --with-board-in-work make, and made --no-loads of 1.0.0
 FILE = re.compile(
-    r"[^:]*: .*: (\d+) commands, last minute (\d+|none)(?:, begun from (.*))?; \d+ to go"
+    r"[^:]*: .*: \d+ commands, last minute (?:\d+|none)(?:, begun from (.*))?; \d+ to go"
 )
 CHECKED, PIECES = (
     "file,begun,commands,minute",
@@ -42,22 +42,14 @@ CHECKED, PIECES = (
 
 
 @dataclasses.dataclass(frozen=True)
-class End:
-    """What the program read of a file. `mark` is that of the file it was begun from, or empty."""
-
-    commands: int
-    minute: int
-    mark: str
-
-
-@dataclasses.dataclass(frozen=True)
 class Answer:
     """What the program answered: the rows by their columns, `file` being the place of a row's file;
-    what it read of each file; and links that are known by the checksum alone.
+    of each file the mark of the one it was begun from, or an empty one; and links that are known by
+    the checksum alone.
     """
 
     rows: list[dict[str, Any]]
-    ends: list[End]
+    marks: list[str]
     options: list[str]
 
 
@@ -65,11 +57,11 @@ NOTHING = Answer([], [], [])
 
 
 class NoAnswer(Exception):
-    """Why there is none, with the status of the program."""
+    """Why there is none, with the status of the program, and the marks of the files before."""
 
-    def __init__(self, why: str, status: int | None = None, ends: Sequence[End] = ()) -> None:
+    def __init__(self, why: str, status: int | None = None, marks: Sequence[str] = ()) -> None:
         super().__init__(why)
-        self.status, self.ends = status, ends
+        self.status, self.marks = status, marks
 
 
 Files = Sequence[pathlib.Path]
@@ -116,25 +108,25 @@ def asked(
             ):  # a sender's UniqueIDs begin as those of a beginning do
                 middle = ["--from-middle"]
                 continue
-            last = first + len(fault.ends) - 1
+            last = first + len(fault.marks) - 1
             if (
                 fault.status != NO_CHAIN
                 or not OPTION.search(str(fault))
                 or last <= first
-                or fault.ends[-1].mark != digits[last - 1]
+                or fault.marks[-1] != digits[last - 1]
             ):
                 raise
             options.append(str(fault))
-    ends = [end for _, its in runs for end in its.ends]
-    want_links(files, digits, ends)
+    marks = [mark for _, its in runs for mark in its.marks]
+    want_links(files, digits, marks)
     rows = [{**row, "file": first + row["file"]} for first, its in runs for row in its.rows]
-    return Answer(rows, ends, options)
+    return Answer(rows, marks, options)
 
 
-def want_links(files: Files, digits: Digits, ends: Sequence[End]) -> None:
+def want_links(files: Files, digits: Digits, marks: Sequence[str]) -> None:
     """A NoAnswer if a file doesn't name the one before it."""
-    for before, named, file, end in zip(files, digits, files[1:], ends[1:]):
-        if end.mark != named:
+    for before, named, file, mark in zip(files, digits, files[1:], marks[1:]):
+        if mark != named:
             raise NoAnswer(
                 f"{file.name} doesn't say that it was begun from {before.name}", NO_CHAIN
             )
@@ -167,9 +159,9 @@ def copies_of(chain: str, files: Files) -> Iterator[tuple[plant.Program, Files]]
         raise plant.Fault(f"{changed[0]}: it was changed while it was asked: ask again")
 
 
-def run_to(out: IO[Any], run: plant.Program, words: list[str], files: Files) -> list[End]:
-    """Runs the program, which prints into an open file; what it read of each of the copies."""
-    ends: list[End] = []
+def run_to(out: IO[Any], run: plant.Program, words: list[str], files: Files) -> list[str]:
+    """Runs the program, which prints into an open file; the marks of the copies."""
+    marks: list[str] = []
     errors: list[str] = []
     folders = re.compile("|".join(sorted({f"{re.escape(str(it.parent))}/" for it in files})))
     done = subprocess.run(
@@ -183,29 +175,28 @@ def run_to(out: IO[Any], run: plant.Program, words: list[str], files: Files) -> 
     said: list[str] = done.stderr.split("\n")
     for line in filter(None, said):
         if found := FILE.fullmatch(line.strip()):
-            minute = int(found[2]) if found[2] != "none" else 0
-            ends.append(End(int(found[1]), minute, found[3] or ""))
+            marks.append(found[1] or "")
         else:
             errors.append(folders.sub("", line.strip().partition(": ")[2]))
     if status := done.returncode:
-        raise NoAnswer("; ".join(errors) or f"it ended with status {status}", status, ends)
-    return ends
+        raise NoAnswer("; ".join(errors) or f"it ended with status {status}", status, marks)
+    return marks
 
 
 def said_of(run: plant.Program, words: list[str], files: Files) -> Answer:
     """The answer about copies of files."""
     with tempfile.TemporaryFile("w+", newline="", **plant.TEXT) as out:
-        ends = run_to(out, run, words, files)
+        marks = run_to(out, run, words, files)
         out.seek(0)
         header, *rows = [*csv.reader(out)] or [[]]
-    if ",".join(header) != (CHECKED if words[0] == "check" else PIECES) or len(ends) != len(files):
+    if ",".join(header) != (CHECKED if words[0] == "check" else PIECES) or len(marks) != len(files):
         raise NoAnswer(
-            f"it answers {words[0]} with {','.join(header)} about {len(ends)} of"
+            f"it answers {words[0]} with {','.join(header)} about {len(marks)} of"
             f" {len(files)} files: it is another version"
         )
     place = {str(it): number for number, it in enumerate(files)}
     at = header.index("file")
-    return Answer([{**dict(zip(header, row)), "file": place[row[at]]} for row in rows], ends, [])
+    return Answer([{**dict(zip(header, row)), "file": place[row[at]]} for row in rows], marks, [])
 
 
 def copied(run: plant.Program, file: pathlib.Path, folder: pathlib.Path) -> pathlib.Path:

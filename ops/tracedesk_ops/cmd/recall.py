@@ -3,7 +3,7 @@
 usage: tracedesk-recall lot NAME.. [--part PART] [OPTION]..
        tracedesk-recall board NAME [OPTION]..
        tracedesk-recall reel NAME.. [OPTION]..
-       tracedesk-recall where ATTRIBUTE=VALUE.. [OPTION]..
+       tracedesk-recall where ATTRIBUTE=VALUE.. [--part PART] [OPTION]..
 options:                [--line LINE FOLDER]..
                         [--as-of TIME] [--within PIECES] [--show TABLE]
                         [--shipped FILE] [--customer NAME] [--evidence FOLDER [--key FILE]]
@@ -12,7 +12,7 @@ examples:
   tracedesk-recall lot L-77            of the lines that are set up on this machine, by
                                        /etc/tracedesk/LINE.conf
   tracedesk-recall lot L-77 L-78 --part CAP-100N
-  tracedesk-recall where date_code=2614 part=CAP-100N
+  tracedesk-recall where date_code=2614 --part CAP-100N
   tracedesk-recall lot L-77 --line L1 /var/lib/tracedesk/L1
   tracedesk-recall lot L-77 --shipped shipped.csv --evidence L-77 > boards.csv
   tracedesk-recall lot L-77 --line L1 /mirror/L1 --as-of 2026-03-02T06:00:00Z       a mirror

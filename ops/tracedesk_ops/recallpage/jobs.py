@@ -64,12 +64,7 @@ class Asked:
 
     @property
     def listed(self) -> list[str]:
-        its = [name.strip() for name in self.names.split(",")]
-        return [*filter(None, its), *([f"part={self.part}"] if self.is_part_of_where else [])]
-
-    @property
-    def is_part_of_where(self) -> bool:
-        return self.kind == "where" and self.part != ""
+        return [*filter(None, map(str.strip, self.names.split(",")))]
 
     @property
     def title(self) -> str:
@@ -78,7 +73,7 @@ class Asked:
 
     def words(self, more: Sequence[str]) -> list[str]:
         """The words of tracedesk-recall, of which no name is an option."""
-        part = [f"--part={self.part}"] if self.part and not self.is_part_of_where else []
+        part = [f"--part={self.part}"] if self.part else []
         within = [f"--within={self.within}"] if self.within else []
         return [self.kind, *part, *within, *more, "--", *self.listed]
 

@@ -189,7 +189,7 @@ def question_of(kind: str, names: Sequence[str], part: str, those: Surveyed) -> 
         unknown = [lot for lot in names if not any(card.lot == lot for card in cards)]
         notes = [f"no line here knows the lot {lot}" for lot in unknown]
         return Meant(its, [*known.faults, *known.twice(of_lots)], notes)
-    return where(terms_of(names), known)
+    return where(terms_of([*names, *([f"part={part}"] if part else [])]), known)
 
 
 def where(terms: Terms, known: Known) -> Meant:

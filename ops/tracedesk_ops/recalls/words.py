@@ -31,7 +31,7 @@ def parse(text: str | None) -> argparse.Namespace:
     parser.add_argument(
         "names", nargs="+", type=options.identifier, help="its names, or attributes"
     )
-    parser.add_argument("--part", type=options.identifier, help="of lots, this part alone")
+    parser.add_argument("--part", type=options.identifier, help="of lots or attributes, this part alone")
     parser.add_argument("--within", type=pieces, default=0, metavar="PIECES")
     parser.add_argument("--as-of", type=end_of_mirrors, metavar="TIME")
     parser.add_argument("--line", nargs=2, action="append", default=[], metavar=("LINE", "FOLDER"))
@@ -65,8 +65,8 @@ def want_sense(words: argparse.Namespace) -> None:
     """Stops where some words don't go together."""
     if words.kind == "board" and len(words.names) > 1:
         stop("a recall is of one board: ask for each by itself")
-    if words.part and words.kind != "lot":
-        stop("--part is of lots: with `where` say part=PART")
+    if words.part and words.kind not in ("lot", "where"):
+        stop("--part is of lots and attributes")
     if words.kind == "where":
         try:
             sets.terms_of(words.names)
