@@ -11,7 +11,7 @@ from typing import Iterator
 import pytest
 from lab import databases, plants
 from lab.databases import Database
-from lab.plants import WorkedLine, expect_whole, pieces
+from lab.plants import WorkedLine, pieces
 from lab.line import table
 from lab.tools import tool
 from lab.waits import wait_for
@@ -104,16 +104,6 @@ def test_a_line_that_was_mistyped_goes(
     assert database.rows("SELECT count(*) FROM placement") == [("0",)]
     database.load(line.kept()[-1])
     assert plants.state(database) == plants.state(wanted)
-
-
-def test_older_files_are_refused(line: WorkedLine, database: Database) -> None:
-    database.load(line.kept()[-1])
-    before = pieces(database)
-    database.refuse("its files are older than those that are loaded", line.kept()[0])
-    assert pieces(database) == before
-    expect_whole(database, 3)
-    database.load(line.kept()[-1])
-    expect_whole(database)
 
 
 def test_lines_of_the_set_up_are_loaded_and_one_without_a_file_is_named(

@@ -189,8 +189,10 @@ def test_untraced_work_is_named_until_it_is_decided(doubted: Doubted) -> None:
     line.note("decisions", Of=of, Became="scrapped")
     doubted.load()
     assert "nobody decided" not in database.query("pieces", 3, lot="L1").said
+    before = pieces(database)
     database.refuse("its files are older than those that are loaded", undecided)
     assert "load the newest ones" in database.query("pieces", 3, lot="L1").said
+    assert pieces(database) == before
 
 
 def test_a_doubt_about_a_name_of_two_lots_is_of_each(monkeypatch: pytest.MonkeyPatch) -> None:

@@ -15,8 +15,7 @@ from typing import Any, Iterator
 import pytest
 from lab import databases, messages
 from lab.databases import Database
-from lab.plants import WorkedLine, as_recalled
-from lab.recalls import recalled
+from lab.plants import WorkedLine
 from lab.tools import tool
 from tracedesk_dev import postgres, shift, trial
 
@@ -34,13 +33,6 @@ class Printed:
     block: Any  # of dev/try-pages
     text: str
     status: int
-
-
-@dataclasses.dataclass(frozen=True)
-class Plant:
-    lines: list[WorkedLine]
-    database: Database
-    printed: list[Printed]
 
 
 def shifts() -> dict[str, shift.Shift]:
@@ -98,32 +90,20 @@ def run_page(room: pathlib.Path, server: postgres.Server) -> Iterator[Printed]:
         yield Printed(block, "\n".join(lines), int((room / f"status{number}").read_text()))
 
 
-@pytest.fixture(scope="module")
-def plant(program: pathlib.Path) -> Iterator[Plant]:
+def test_each_block_prints_what_the_page_says(program: pathlib.Path) -> None:
     databases.skip_without()
     lines: list[WorkedLine] = []
     with tempfile.TemporaryDirectory(prefix="ops-") as name, databases.server() as server:
         try:
             for line in make_lines(program, pathlib.Path(name)):
                 lines.append(line)
-            printed = list(run_page(pathlib.Path(name), server))
-            yield Plant(lines, Database(server, "postgres"), printed)
+            printed = [*run_page(pathlib.Path(name), server)]
         finally:
             for line in lines:
                 line.end()
-
-
-def test_each_block_prints_what_the_page_says(plant: Plant) -> None:
     wrong = [
         f"{PAGE}:{its.block.line}: {failure}"
-        for its in plant.printed
+        for its in printed
         if (failure := pages.failure(its.block, its.text, its.status))
     ]
     assert not wrong, "\n".join(wrong)
-
-
-def test_a_recall_prints_the_same_pieces(plant: Plant) -> None:
-    words = [word for line in plant.lines for word in line.recall_words()]
-    by_tool = recalled("lot", shift.RECALLED, *words, "--show", "pieces")
-    rows = plant.database.query("pieces", lot=shift.RECALLED).rows
-    assert as_recalled(plant.lines, rows) == by_tool

@@ -68,19 +68,24 @@ Files = Sequence[pathlib.Path]
 Digits = Sequence[str]  # of files, by which marks name them
 
 
+def found(program: str) -> str:
+    """tracedesk-chain, which is next to the program; a NoAnswer if there is none."""
+    if chain := plant.chain_of(program):
+        return chain
+    raise NoAnswer("there is no tracedesk-chain next to tracedesk: CHAIN names it")
+
+
 class Asker:
     """The program, and the words by which it is asked a question."""
 
     def __init__(self, program: str, question: Iterable[str]) -> None:
-        self.program, self.words = plant.chain_of(program), [*question, "--pieces"]
+        self.program, self.words = program, [*question, "--pieces"]
 
     def ask(self, files: Files, digits: Digits, is_middle: bool = False) -> Answer:
         """What it answers about files, from the oldest on; a NoAnswer or a Fault where it has no
         answer.
         """
-        if not self.program:
-            raise NoAnswer("there is no tracedesk-chain next to tracedesk: CHAIN names it")
-        return asked(self.program, self.words, files, digits, is_middle)
+        return asked(found(self.program), self.words, files, digits, is_middle)
 
 
 def asked(

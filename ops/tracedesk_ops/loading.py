@@ -49,10 +49,7 @@ class Tables:
     """The plant's tables, over one connection; one call at a time has them."""
 
     def __init__(self, program: str) -> None:
-        chain = plant.chain_of(program)
-        if not chain:
-            raise plant.Fault("there is no tracedesk-chain next to tracedesk: CHAIN names it")
-        self.chain = chain
+        self.chain = chains.found(program)
         self.link = psycopg.connect(autocommit=True, client_encoding="utf8")
         self.do("SELECT pg_advisory_lock(hashtext('tracedesk-plant-load'))")
         self.do("SET search_path TO plant")

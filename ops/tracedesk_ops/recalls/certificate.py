@@ -57,7 +57,7 @@ def certificate(recall: Recall, tables: dict[str, Table], sentence: str) -> dict
             **{name: len(table) - 1 for name, table in tables.items()},
         },
         "lines": [line_of(recall, line) for line in recall.lines],
-        "programs": programs(recall.chain.program),
+        "programs": programs(plant.chain_of(recall.chain.program)),
         "reasons": recall.reasons(),
         "notes": recall.notes,
         "cannot_know": LIMITS,

@@ -12,7 +12,7 @@ import pathlib
 from collections.abc import Iterator, Sequence
 from typing import Any
 
-from tracedesk_ops import catalogue, chains, files, model, plant
+from tracedesk_ops import catalogue, chains, files, model
 from tracedesk_ops.recalls import certificate, signing
 from tracedesk_ops.recalls.certificate import LISTED
 from tracedesk_ops.recalls.evidence import Contents
@@ -105,9 +105,7 @@ def again(
     line. A Refused if an archive is another one, or the answer is, or its boards are.
     """
     want_boards(contents)
-    chain = plant.chain_of(program)
-    if not chain:
-        raise chains.NoAnswer("there is no tracedesk-chain next to tracedesk: CHAIN names it")
+    chain = chains.found(program)
     (room / LISTED).write_bytes(contents.get(LISTED, b""))
     pieces, own = rows_of(contents, "pieces"), None
     if "serials.csv" in contents:
