@@ -246,8 +246,9 @@ def test_a_name_with_markup_is_text(site: Site, name: str) -> None:
         assert name == "a&b" or name in ("{{ 7 * 7 }}",) or name not in page
 
 
-def test_a_customer_with_markup_is_text(site: Site) -> None:
+def test_a_customer_with_markup_or_a_formula_is_text(site: Site) -> None:
     pytest.importorskip("weasyprint")
+    pytest.importorskip("xlsxwriter")
     shipped = b"board,customer,date\nSN-3,<script>alert(1)</script>,=1+1\n"
     at = site.asked("lot", "L-3", shipped=(io.BytesIO(shipped), "<b>.csv"))
     site.worker().work(is_once=True)
@@ -256,6 +257,10 @@ def test_a_customer_with_markup_is_text(site: Site) -> None:
     (site.folder / "a.pdf").write_bytes(site.get(at + papers.PDF).data)
     text = run(["pdftotext", site.folder / "a.pdf", "-"]).expect().out
     assert "<script>alert(1)</script>" in text
+    with zipfile.ZipFile(io.BytesIO(site.get(at + papers.SHEET).data)) as book:
+        parts = {name: book.read(name) for name in book.namelist()}
+    assert b"=1+1" in parts["xl/sharedStrings.xml"]
+    assert not [name for name, part in parts.items() if b"<f>" in part]
 
 
 @pytest.mark.parametrize("text", [b"a,b\n1,2\n", b"\xff\xfe", b"board\n", b'"'])
