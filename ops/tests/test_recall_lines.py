@@ -37,10 +37,8 @@ class Young:
     def recalled(self, show: str, status: int = 0) -> Rows:
         """What the line has of the lot."""
         words: list[Word] = ["lot", self.lot, *self.line.recall_words(), "--show", show]
-        done = recall(*words)
-        if not self.line.archived:
-            done.expect(status, "L1: no archives yet")
-        return recalled(*words, status=status)
+        young = [] if self.line.archived else ["L1: no archives yet"]
+        return table(recall(*words).expect(status, *young).out)
 
     def roll_over(self) -> None:
         self.line.end()

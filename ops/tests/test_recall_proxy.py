@@ -244,37 +244,24 @@ def test_a_recaller_finds_the_boards_in_a_browser(reader: Reader) -> None:
 
 @pytest.mark.browser
 @pytest.mark.needs("chromium", "python:selenium")
-def test_a_desk_that_is_away_is_named_in_a_browser(reader: Reader, line: Line) -> None:
-    """The boards of its archives are there, in red, and the answer is not complete."""
+def test_what_an_answer_lacks_is_named_in_a_browser(reader: Reader, line: Line) -> None:
+    """A desk that is away, and a board whose report it refused. The others are there, in red."""
+    body = {"Machine": "M1", "Board": "SN-8", "Designators": ["C1"]}
+    line.post([small.say("MaterialsInstalled", "refused", **body)])
     line.end()
     try:
         reader.asks("240131")
         reader.worker.work(is_once=True)
     finally:
         line.serve()
-    assert reader.waits().startswith("NOT COMPLETE: 2 boards hold a piece of lot 240131")
-    assert "L1: no desk of this machine has" in reader.text
-    assert "SN-1" in reader.text
-    colour = reader.page.find_element("id", "answer").value_of_css_property("color")
-    assert colour == "rgba(183, 28, 28, 1)"
-    reader.expect_well_shown()
-
-
-@pytest.mark.browser
-@pytest.mark.needs("chromium", "python:selenium")
-def test_work_about_which_nobody_decided_is_named_in_a_browser(reader: Reader, line: Line) -> None:
-    """A board whose report the desk refused: its pieces are in no trace."""
-    body = {"Machine": "M1", "Board": "SN-8", "Designators": ["C1"]}
-    line.post([small.say("MaterialsInstalled", "refused", **body)])
-    try:
-        reader.asks("L-3")
-        reader.worker.work(is_once=True)
-    finally:
         line.note("decisions", Of=1, Became="scrapped")
-    assert reader.waits().startswith("NOT COMPLETE: 1 board holds a piece of lot L-3")
+    assert reader.waits().startswith("NOT COMPLETE: 2 boards hold a piece of lot 240131")
+    for text in ("L1: no desk of this machine has", "nobody decided", "SN-1"):
+        assert text in reader.text, text
     table = reader.page.find_elements("css selector", "table")[-2].text
     assert "SN-8" in table and "MaterialsInstalled" in table, table
-    assert "nobody decided" in reader.text
+    colour = reader.page.find_element("id", "answer").value_of_css_property("color")
+    assert colour == "rgba(183, 28, 28, 1)"
     reader.expect_well_shown()
 
 

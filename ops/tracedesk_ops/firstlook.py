@@ -6,7 +6,7 @@ import pathlib
 import sqlite3
 from typing import NamedTuple
 
-from tracedesk_ops import catalogue, copies, sealed
+from tracedesk_ops import catalogue, copies
 
 KNOWN = "SELECT 1 FROM {} WHERE {}"
 LEFT = """SELECT reel, part, lot, remaining, iif(mount.reel IS NOT NULL, 'mounted', iif(open_since >= 0, 'open', 'sealed')),
@@ -95,12 +95,11 @@ class ReelLeft(NamedTuple):
     minute: int | None
 
 
-def is_known(file: pathlib.Path, question: Question) -> bool:
-    """Whether a file knows the name."""
+def is_known(database: sqlite3.Connection, question: Question) -> bool:
+    """Whether a desk knows the name."""
     where, values = question.sql()
     query = KNOWN.format("board" if question.kind == "board" else "reel", where)
-    with sealed.opened(file) as database:
-        return bool(copies.rows(database, query, *values))
+    return bool(copies.rows(database, query, *values))
 
 
 def left_in(

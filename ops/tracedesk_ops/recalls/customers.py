@@ -52,13 +52,13 @@ def narrow(recall: Recall, shipped: Shipped, customer: str) -> dict[str, Table]:
         )
     without = NOT_KNOWN if recall.status() == 3 else NO
     rows: Table = [HEADER]
-    by_board = {row[0]: row for row in tables.boards_table(recall, None)[1:]}
+    whole = tables.tables_of(recall, None)
+    by_board = {row[0]: row for row in whole["boards"][1:]}
     for serial, date in serials.items():
         its = by_board.get(serial)
         holds = PERHAPS if doubtful & {serial, ""} else without
         placed = its[1:4] if its else [0, "", ""]
         rows.append([serial, customer, date, YES if its else holds, *placed])
-    whole = tables.tables_of(recall, None)
     places = {"pieces": 0, "doubtful": 1, "untraced": 3}  # of the column that has the board
     own = {
         name: [whole[name][0], *(row for row in whole[name][1:] if row[at] in {*serials, ""})]

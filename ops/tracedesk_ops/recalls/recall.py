@@ -107,25 +107,24 @@ class Recall:
             for it in answer.options
         ]
         self.asked += answer.files
-        for _, file, rows, _ in answer.files:
-            for row in rows:
-                row |= {"minute": int(row["minute"]), "line": line.name, "file": file.file}
+        for its in answer.files:
+            for row in its.pieces:
+                row |= {"minute": int(row["minute"]), "line": line.name, "file": its.file.file}
                 self.pieces.append(Piece(**row))
             try:
-                self.known |= bool(rows) or firstlook.is_known(file.path, self.question)
+                with sealed.opened(its.file.path) as database:
+                    self.look_into(database, line, its.file, its is answer.files[-1])
             except sqlite3.Error as fault:
-                self.faults.append(f"{line.name}: {file.file}: {fault}")
-        if answer.files:
-            self.left_over(line, answer.files[-1].file)
+                self.faults.append(f"{line.name}: {its.file.file}: {fault}")
 
-    def left_over(self, line: Line, newest: catalogue.Archive) -> None:
-        """Takes what is left of the lot or reel by the newest file."""
-        minute = None if newest.file == RUNNING else newest.last_minute
-        try:
-            with sealed.opened(newest.path) as database:
-                self.reels += firstlook.left_in(database, line, self.question, minute)
-        except sqlite3.Error as fault:
-            self.faults.append(f"{line.name}: {newest.file}: {fault}")
+    def look_into(
+        self, database: sqlite3.Connection, line: Line, file: catalogue.Archive, is_newest: bool
+    ) -> None:
+        """Takes whether a file knows the name, and what is left of it by the newest one."""
+        self.known |= firstlook.is_known(database, self.question)
+        if is_newest:
+            minute = None if file.file == RUNNING else file.last_minute
+            self.reels += firstlook.left_in(database, line, self.question, minute)
 
     def refused(self, line: Line, fault: Exception) -> None:
         """Takes why there is no answer about a line's chain."""

@@ -83,16 +83,13 @@ def terms_of(words: Iterable[str]) -> Terms:
 
 class Known:
     """What files, each with its line's name, know of reels: `cards` has the parts and lots of each
-    name, each with the attributes that its receipts have, `old` and `new` the names of each move,
-    and `faults` what could not be looked at.
+    name, each with the attributes that its receipts have, `moves` the old and the new names of each
+    move, by the beginning of its UniqueIDs, and `faults` what could not be looked at.
     """
 
     def __init__(self, files: Iterable[tuple[str, pathlib.Path]]) -> None:
         self.cards: dict[str, Cards] = collections.defaultdict(dict)
-        self.old: dict[str, set[str]] = collections.defaultdict(
-            set
-        )  # by the beginning of UniqueIDs
-        self.new: dict[str, set[str]] = collections.defaultdict(set)
+        self.moves: dict[str, tuple[set[str], set[str]]] = {}
         self.faults: list[str] = []
         for line, file in files:
             try:
@@ -111,10 +108,11 @@ class Known:
         for uid, command in copies.rows(database, MOVES):
             if found := MOVE.fullmatch(uid):
                 word, body = stored.body(command)
+                old, new = self.moves.setdefault(found[1], (set(), set()))
                 if word == "ReelReceived":
-                    self.new[found[1]].add(body["Reel"])
+                    new.add(body["Reel"])
                 elif word == "CountsTaken" and found[2]:
-                    self.old[found[1]].update(row["Reel"] for row in body["Counts"])
+                    old.update(row["Reel"] for row in body["Counts"])
 
     @staticmethod
     def received(database: sqlite3.Connection) -> Iterator[tuple[str, str, str]]:
@@ -134,22 +132,17 @@ class Known:
 
     def followed(self, reels: Iterable[str]) -> list[str]:
         """The reels with all names that they have had."""
-        found = dict.fromkeys(reels)
-        waiting = list(found)
-        while waiting:
-            reel = waiting.pop()
-            for move in {*self.old, *self.new}:
-                names = self.old[move] | self.new[move]
-                if reel in names:
-                    waiting += [name for name in sorted(names) if name not in found]
-                    found |= dict.fromkeys(sorted(names))
-        return list(found)
+        found = [*dict.fromkeys(reels)]
+        for reel in found:  # which grows
+            for old, new in self.moves.values():
+                if reel in old | new:
+                    found += sorted((old | new).difference(found))
+        return found
 
     def away(self, reels: Iterable[str]) -> Iterator[str]:
         """Which of these reels came from, or went to, a line that isn't asked."""
         for reel in reels:
-            for move in sorted({*self.old, *self.new}):
-                old, new = self.old[move], self.new[move]
+            for _, (old, new) in sorted(self.moves.items()):
                 if reel in old | new and not (old and new):
                     way = "went to" if old else "came from"
                     yield f"the reel {reel} {way} a line that is not asked: name that line too"

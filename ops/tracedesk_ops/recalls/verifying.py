@@ -22,7 +22,6 @@ RUNNING = catalogue.RUNNING
 
 MOST_SIGNED = 1 << 20  # bytes of the checksums, and of the signature
 MOST = 1 << 30  # bytes of another file
-TRACE = ("board", "designator", "part", "lot", "reel", "machine", "slot", "overdue")
 
 
 class Refused(Exception):
@@ -121,22 +120,20 @@ def again(
         digits = [its["sha256"][: model.DIGITS] for its in archives]
         answer = chains.asked(chain, words, paths, digits)
         wanted = [
-            (archives[row["file"]]["file"], catalogue.spelled(int(row["minute"])), *traced(row))
+            {**row, "line": line["line"], "file": archives[row["file"]]["file"]}
+            | {"minute": catalogue.spelled(int(row["minute"]))}
             for row in answer.rows
             if own is None or row["board"] in own
         ]
-        got = [
-            (row["file"], row["minute"], *traced(row))
-            for row in pieces
-            if row["line"] == line["line"] and row["file"] != RUNNING
-        ]
-        if sorted(got) != sorted(wanted):
+        own_line = [row for row in pieces if row["line"] == line["line"]]
+        got = [row for row in own_line if row["file"] != RUNNING]
+        if in_order(got) != in_order(wanted):
             raise Refused(f"{line['line']}: tracedesk-chain answers otherwise about these archives")
         yield f"{line['line']}: the answer comes again from its {len(paths)} archives"
 
 
-def traced(row: dict[str, Any]) -> tuple[str, ...]:
-    return tuple(row[name] for name in TRACE)
+def in_order(rows: list[dict[str, str]]) -> list[list[tuple[str, str]]]:
+    return sorted(sorted(row.items()) for row in rows)
 
 
 def file_of(folders: Sequence[pathlib.Path], name: str, sha256: str) -> pathlib.Path:

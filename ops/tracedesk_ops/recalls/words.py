@@ -31,7 +31,9 @@ def parse(text: str | None) -> argparse.Namespace:
     parser.add_argument(
         "names", nargs="+", type=options.identifier, help="its names, or attributes"
     )
-    parser.add_argument("--part", type=options.identifier, help="of lots or attributes, this part alone")
+    parser.add_argument(
+        "--part", type=options.identifier, help="of lots or attributes, this part alone"
+    )
     parser.add_argument("--within", type=pieces, default=0, metavar="PIECES")
     parser.add_argument("--as-of", type=end_of_mirrors, metavar="TIME")
     parser.add_argument("--line", nargs=2, action="append", default=[], metavar=("LINE", "FOLDER"))
