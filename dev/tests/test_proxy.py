@@ -10,6 +10,7 @@ its own:
 """
 import base64
 import contextlib
+import csv
 import json
 import pathlib
 import re
@@ -155,6 +156,26 @@ def test_certificates_are_compared_letter_by_letter(site: Site) -> None:
         for name in ("m2", "capital", "longer", "before", "more", "auditor")
     }
     agree("who may send", {name: 200 if name == "m2" else 401 for name in got}, got)
+
+
+def test_a_refused_message_of_any_length_is_an_entry_whole(site: Site) -> None:
+    """The proxy takes the longest one that the desk takes."""
+
+    def noted(letters: int) -> str:
+        said = {
+            "MessageName": "TraceDesk.WorkStarted",
+            "UniqueID": "long",
+            "Source": "m2",
+            "TimeStamp": "2026-03-02T06:00:00Z",
+            "MessageBody": {"Machine": "M1", "Board": "B1", "Note": "x" * letters},
+        }
+        return json.dumps(said)
+
+    text = noted((1 << 20) - len(noted(0)))
+    agree("its status", 409, site.asked("POST", "/messages", "op", text)[0])
+    csv.field_size_limit(1 << 22)
+    *_, row = csv.DictReader(site.asked("GET", "/line/book?after=0", "office")[2].splitlines())
+    agree("its entry", text, row["told"])
 
 
 def test_nobody_logs_in_as_the_tools(site: Site) -> None:

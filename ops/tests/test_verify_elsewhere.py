@@ -1,5 +1,5 @@
-"""The commands of docs/verify.md at a customer's, over that customer's evidence, where nothing of ours
-is: a folder with a shell, ssh-keygen and sha256sum alone.
+"""The commands of docs/verify.md at a customer's, over that customer's evidence, where nothing of
+ours is: a folder with a shell, ssh-keygen and sha256sum alone.
 
     TRACEDESK_CUSTOMER_ROOT=/srv/debian /usr/bin/python3 -m pytest
     ops/tests/test_verify_elsewhere.py
