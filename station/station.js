@@ -71,10 +71,7 @@ export class Station {
     this.called = new Set(); // slots whose end somebody was called for
     this.model = new Model(read, () => this.changed());
     this.outbox = new Outbox((told) => this.told(told));
-    this.takenOff = new TakenOff({
-      say: (scan) => this.sayTakenOff(scan),
-      changed: () => this.verdict.redrawOff(),
-    });
+    this.takenOff = new TakenOff(this, () => this.verdict.redrawOff());
     this.verdict = new Verdict(this.model, at("verdict"), {
       isSeen: (scan) => store.see(scan.uid).catch(() => {}),
       keep: (scan) => this.outbox.keepNotSent(scan).catch(() => {}),
@@ -305,23 +302,6 @@ export class Station {
     const found = await desk.decide(told);
     await this.model.lookAtMachines();
     return found;
-  }
-
-  /**
-   * Decides that a refused reel was taken off: its entry in the line's book is closed, and recalls
-   * doubt nothing because of it.
-   */
-  async sayTakenOff(scan) {
-    if (this.badgeName === null) {
-      return "badge";
-    }
-    await this.model.lookAtMachines();
-    try {
-      const entry = this.model.entryOf(scan.body) ?? (await desk.entryOf(scan.uid));
-      return entry === null ? "had" : await this.decide(entry, "taken off");
-    } catch {
-      return "none";
-    }
   }
 
   /** Whether a slot and a reel go into the list that is scanned, and are no load. */

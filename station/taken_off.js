@@ -2,6 +2,7 @@
 // placed from it. Then its machine may go on, and no recall doubts pieces because of it. So it is
 // asked once more.
 import { isLoad, whereOf } from "./answers.js";
+import * as desk from "./desk.js";
 import { button, el } from "./dom.js";
 import { said } from "./say.js";
 import { TEXTS } from "./words.js";
@@ -9,12 +10,9 @@ import { TEXTS } from "./words.js";
 const STATES = { had: "noted", badge: "badge", forbidden: "forbidden", none: "failed" };
 
 export class TakenOff {
-  /**
-   * `say` says so of a scan, and returns what came of it; `changed` is called when it looks
-   * another way.
-   */
-  constructor({ say, changed }) {
-    Object.assign(this, { say, changed });
+  /** `changed` is called when it looks another way. */
+  constructor(station, changed) {
+    Object.assign(this, { station, changed });
     this.states = new Map(); // of scans, by their UniqueID: "asked", "badge", "noted", ..
   }
 
@@ -24,7 +22,26 @@ export class TakenOff {
   }
 
   async decide(scan) {
-    this.set(scan.uid, STATES[await this.say(scan)]);
+    this.set(scan.uid, await this.decided(scan));
+  }
+
+  /**
+   * Decides about the entry of a scan: it is closed, and recalls doubt nothing because of it. A
+   * scan without an entry stops no machine, and nothing is noted: so of a reel that is on that very
+   * slot, and of one that was refused twice, and then loaded.
+   */
+  async decided({ uid, body }) {
+    const { station } = this;
+    if (station.badgeName === null) {
+      return "badge";
+    }
+    try {
+      await station.model.lookAtMachines();
+      const entry = station.model.entryOf(body) ?? (await desk.entryOf(uid));
+      return entry === null ? "nothing" : STATES[await station.decide(entry, "taken off")];
+    } catch {
+      return "failed";
+    }
   }
 
   /** What a refusal offers, or nothing where it is of no reel on a slot. */
@@ -46,6 +63,7 @@ export class TakenOff {
     ],
       badge: () => [line(texts.badge), ask],
       noted: () => [line(texts.noted)],
+      nothing: () => [line(texts.nothing)],
       failed: () => [line(texts.failed), ask],
       forbidden: () => [line(texts.forbidden), ask],
     }[state]();

@@ -242,6 +242,7 @@ export const TEXTS = {
       yes: "JA, abgenommen",
       no: "NEIN",
       noted: "Vermerkt: Die Rolle ist ab, und nichts wurde von ihr bestückt.",
+      nothing: "Nichts zu vermerken: Wegen dieses Scans war nichts offen.",
       badge: "NICHT vermerkt: Ausweis scannen, dann noch einmal ABGENOMMEN tippen.",
       failed: "NICHT vermerkt: keine Antwort. Noch einmal ABGENOMMEN tippen.",
       forbidden: "NICHT vermerkt: Die Anmeldung dieser Seite darf nicht senden.",

@@ -235,6 +235,7 @@ export const TEXTS = {
       yes: "SÍ, quitado",
       no: "NO",
       noted: "Anotado: el rollo se quitó y no se colocó nada de él.",
+      nothing: "Nada que anotar: no había nada abierto por este escaneo.",
       badge: "NO anotado: escanee su credencial y toque QUITADO otra vez.",
       failed: "NO anotado: sin respuesta. Toque QUITADO otra vez.",
       forbidden: "NO anotado: el usuario de esta página no puede enviar.",

@@ -221,6 +221,7 @@ export const TEXTS = {
       yes: "YES, taken off",
       no: "NO",
       noted: "Noted: the reel was taken off, and nothing was placed from it.",
+      nothing: "Nothing to note: nothing was open because of this scan.",
       badge: "NOT noted: scan your badge, then touch TAKEN OFF again.",
       failed: "NOT noted: no answer. Touch TAKEN OFF again.",
       forbidden: "NOT noted: the log-in of this page may not send.",
