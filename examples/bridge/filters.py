@@ -3,7 +3,6 @@ what it gives: messages of a desk, or why there are none.
 """
 from __future__ import annotations
 
-import datetime
 import decimal
 import hashlib
 import json
@@ -26,7 +25,6 @@ TAIL = '\n)] catch {"fault": .}'
 ANSWER = 30.0  # seconds for a record; then jq's input ends, and after as many more jq is killed
 # From this number on programs that calculate in doubles round, so that two names become one.
 ROUNDED = 2**53
-TIME = re.compile(r"(\d{4}-\d\d-\d\d)[Tt ](\d\d:\d\d:\d\d)(?:[.,]\d+)?([Zz]|[+-]\d\d:\d\d)?")
 HALVES = re.compile("[\ud800-\udfff]")
 # What jq makes of a member that isn't there, as a part of a text.
 NULL = re.compile(r"(?:^|[-_/.: ])null(?:$|[-_/.: ])")
@@ -158,23 +156,9 @@ class Filter:
                 if NULL.search(text):
                     raise NotMapped(f"{text!r:.100}: what isn't there became the text null", guess)
             made = WORDS[name].of_body(body)
-            return made.message(source, unique_id=uid, at=self.moment(stamp))
+            return made.message(source, unique_id=uid, at=forms.moment(stamp, self.zone))
         except OutOfRange as fault:
             raise NotMapped(f"{WORDS[name].WORD}: {fault}", guess) from None
-
-    def moment(self, text: Any) -> datetime.datetime:
-        """The moment of a time of RFC 3339, or of one without an offset in the zone."""
-        told = TIME.fullmatch(text) if isinstance(text, str) else None
-        if not told or not told[3] and not self.zone:
-            raise OutOfRange(
-                "TimeStamp", f"{text!r:.100} is no time with its offset, as 2026-03-02T06:00:00Z"
-            )
-        try:
-            offset = "+00:00" if told[3] in ("Z", "z") else told[3] or ""
-            at = datetime.datetime.fromisoformat(f"{told[1]}T{told[2]}{offset}")
-        except ValueError:
-            raise OutOfRange("TimeStamp", f"{text!r:.100} is in no calendar") from None
-        return at if told[3] else at.replace(tzinfo=self.zone)
 
 
 def id_of(text: bytes) -> str:

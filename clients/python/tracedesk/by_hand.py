@@ -2,17 +2,14 @@
 from __future__ import annotations
 
 import argparse
-import datetime
 import json
-import re
 import sys
 from typing import Any, Dict, List
 
-from . import answers, disk, spool
+from . import answers, disk, forms, spool
 from .console import say, tell
 
 STATES = ("waiting", "sent", "aside", "dropped")  # of messages
-TIME = re.compile(r"\d{4}-\d\d-\d\d[Tt]\d\d:\d\d.*")
 
 
 def put(into: spool.Spool, file: str) -> int:
@@ -52,26 +49,12 @@ def give_up(into: spool.Spool, names: List[str], feeders: List[str]) -> int:
     return 0
 
 
-def moment(text: str) -> float:
-    """A second of the clock."""
-    try:
-        at = datetime.datetime.fromisoformat(re.sub("[Zz]$", "+00:00", text))
-    except ValueError:
-        raise disk.SpoolError(f"{text} is no time, as 2026-03-02T06:00Z") from None
-    if at.tzinfo is None:
-        raise disk.SpoolError(
-            f"{text} has no offset: a time is spelled as 2026-03-02T06:00Z or"
-            " 2026-03-02T07:00+01:00"
-        )
-    return at.timestamp()
-
-
 def again(asked: argparse.Namespace, into: spool.Spool) -> int:
     """Has requests sent again, or all that was accepted since a time. No report of work that was
     refused is."""
     names: List[str] = asked.again
-    if len(names) == 1 and TIME.fullmatch(names[0]):
-        found = into.again_since(moment(names[0]))
+    if len(names) == 1 and forms.TIME.fullmatch(names[0]):
+        found = into.again_since(forms.moment(names[0], member="--again").timestamp())
         say(
             f"{len(found)} wait again, before those that wait"
             + (

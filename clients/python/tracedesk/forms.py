@@ -18,6 +18,8 @@ from . import limits
 EARLIEST = datetime.datetime(1970, 1, 1, tzinfo=datetime.timezone.utc)
 LATEST = datetime.datetime(9999, 12, 30, 22, tzinfo=datetime.timezone.utc)
 LONGEST_MESSAGE = limits.LONGEST_INPUT
+TIME = re.compile(r"(\d{4}-\d\d-\d\d)[Tt ](\d\d:\d\d)(?::(\d\d)(?:[.,]\d+)?)?([Zz]|[+-]\d\d:\d\d)?")
+WRITTEN = "write it as 2026-03-02T06:00:00Z, or with an offset, as 2026-03-02T07:00:00+01:00"
 
 
 class OutOfRange(ValueError):
@@ -243,6 +245,21 @@ def shown(value: Any) -> Any:
     if isinstance(value, tuple):
         return [it.body() if isinstance(it, Part) else it for it in value]
     return value
+
+
+def moment(
+    text: Any, zone: Optional[datetime.tzinfo] = None, member: str = "TimeStamp"
+) -> datetime.datetime:
+    """The moment of a time of RFC 3339, or of one without an offset in this zone."""
+    told = TIME.fullmatch(text) if isinstance(text, str) else None
+    if not told or not (told[4] or zone):
+        raise OutOfRange(member, f"{text!r:.100} is no time with its offset: {WRITTEN}")
+    offset = (told[4] or "").upper().replace("Z", "+00:00")
+    try:
+        at = datetime.datetime.fromisoformat(f"{told[1]}T{told[2]}:{told[3] or '00'}{offset}")
+    except ValueError as fault:
+        raise OutOfRange(member, f"{text} is in no calendar ({fault}): {WRITTEN}") from None
+    return at if offset else at.replace(tzinfo=zone)
 
 
 def stamp(at: Optional[datetime.datetime]) -> str:

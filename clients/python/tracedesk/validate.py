@@ -3,16 +3,12 @@ line.
 """
 from __future__ import annotations
 
-import datetime
 import json
-import re
 import sys
 from typing import Any, Callable, Dict, List
 
 from . import forms, words
 
-TIME = re.compile(r"(\d{4}-\d\d-\d\d)[Tt ](\d\d:\d\d)(:\d\d([.,]\d+)?)?([Zz]|[+-]\d\d:\d\d)")
-AS = "write it as 2026-03-02T06:00:00Z, or with an offset, as 2026-03-02T07:00:00+01:00"
 ENVELOPE = ("MessageName", "UniqueID", "Source", "TimeStamp", "MessageBody")
 KINDS = {words.PREFIX + it.WORD: it for it in words.MESSAGES}
 
@@ -36,7 +32,7 @@ def looked_at(line: bytes) -> List[forms.OutOfRange]:
         )
     for it in ("UniqueID", "Source"):
         words.NAME.checked(it, told[it])
-    look_at_time(told["TimeStamp"])
+    forms.stamp(forms.moment(told["TimeStamp"]))
     unread = unread_of(told)
     KINDS[name].of_body(told["MessageBody"], unread)
     return unread
@@ -48,19 +44,6 @@ def unread_of(told: Dict[str, Any]) -> List[forms.OutOfRange]:
         for it in told
         if it not in ENVELOPE
     ]
-
-
-def look_at_time(text: Any) -> None:
-    """A desk reads more forms than this: without an offset it takes UTC."""
-    found = TIME.fullmatch(text) if isinstance(text, str) else None
-    if not found:
-        raise forms.OutOfRange("TimeStamp", f"{text!r:.100} is no time with its offset: {AS}")
-    try:
-        at = datetime.datetime.fromisoformat(f"{found[1]}T{found[2]}")
-    except ValueError as fault:
-        raise forms.OutOfRange("TimeStamp", f"{text} is in no calendar ({fault}): {AS}") from None
-    if at < datetime.datetime(1970, 1, 1):
-        raise forms.OutOfRange("TimeStamp", f"{text} is before 1970: is the clock set?")
 
 
 def run(file: str, say: Callable[[str], None]) -> int:
