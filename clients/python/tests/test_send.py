@@ -282,25 +282,6 @@ def test_a_message_of_the_archive_is_done(lab: Lab) -> None:
     assert (lab.send().returncode, lab.names(), lab.server.script) == (0, [], [])
 
 
-def test_a_name_that_this_spool_used_before_is_no_archive(lab: Lab) -> None:
-    """A ClockSet from here was accepted under that UniqueID, so a yes to the question says nothing
-    of the message.
-    """
-    lab.send("--follow", "-", given=line("u1", "ClockSet"))
-    lab.send("--put", "-", given=line("u1"))
-    lab.server.script = [
-        (502, {}, {}),
-        (409, {}, {"Answer": "Refused", "Number": 1, "Refusal": "IdReused", "UniqueID": "u1"}),
-        (200, {}, {"Answer": "Accepted", "Number": 1, "UniqueID": "u1"}),
-    ]
-    done = lab.send()
-    assert (
-        done.returncode,
-        len(lab.server.script),
-        len(lab.names("aside")),
-    ) == (1, 1, 1), done.stderr
-
-
 def test_sent_messages_are_sent_again(lab: Lab) -> None:
     lab.send("--follow", "-", given=line("u1") + b"\n" + line("bad2") + b"\n" + line("u3"))
     done = lab.send("--again", "2026-03-02T06:00Z")

@@ -284,15 +284,9 @@ class Desk:
         answer: answers.Answer = self.until(call)
         return answer
 
-    def send(
-        self,
-        message: Union[forms.Message, bytes],
-        is_tried: bool = False,
-        is_others: Callable[[], bool] = lambda: False,
-    ) -> answers.Answer:
+    def send(self, message: Union[forms.Message, bytes], is_tried: bool = False) -> answers.Answer:
         """Sends the same bytes until they are answered, and returns the answer. `is_tried` is
-        whether a run before may have sent them, `is_others` whether another message of the sender
-        is known to have been accepted under their UniqueID.
+        whether a run before may have sent them.
 
         A message may have been accepted, its answer lost, and the desk begun anew: then the new
         desk refuses its UniqueID. It knows for each UniqueID of its archive the Source and the
@@ -307,7 +301,6 @@ class Desk:
             isinstance(answer, answers.Refused)
             and answer.refusal == "IdReused"
             and self.is_unanswered
-            and not is_others()
             and isinstance(self.ask(answers.question(text)), answers.Accepted)
         ):
             self.tell(

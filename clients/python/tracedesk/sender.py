@@ -16,7 +16,7 @@ from .desk import Desk
 from .command import Command
 from .interlock import Interlock
 from .disk import files_in, lines_of, lock_alone
-from .spool import MOST_READ, Spool, uid_of
+from .spool import MOST_READ, Spool
 from .status import Status
 
 LOOK = 0.2  # seconds between two looks at a folder
@@ -74,10 +74,7 @@ class Sender:
             return answers.LINE_TOO_LONG, told
         _, is_tried = patiently(lambda: self.spool.take(name), self.tell)
         try:
-            return (
-                self.desk.send(text, is_tried, lambda: self.spool.has_accepted(uid_of(text), name)),
-                told,
-            )
+            return self.desk.send(text, is_tried), told
         except Exception:
             if not self.desk.is_unanswered:
                 self.spool.untried(name)

@@ -278,15 +278,6 @@ class Spool:
             number_of(name),
         )
 
-    def has_accepted(self, unique_id: str, name: str) -> bool:
-        """Whether the desk accepted another message of this spool under this UniqueID."""
-        its = self.rows(
-            "SELECT answer FROM message WHERE uid = ? AND n <> ? AND answer NOT NULL",
-            unique_id,
-            number_of(name),
-        )
-        return any(isinstance(answers.read(text), answers.Accepted) for (text,) in its)
-
     # --- What was sent
 
     def again_since(self, since: float) -> List[str]:
