@@ -5,10 +5,8 @@ from __future__ import annotations
 
 import dataclasses
 import difflib
-import email.utils
 import enum
 import json
-import time
 from typing import Any, Dict, Optional, Tuple, Union
 
 from . import words
@@ -241,20 +239,9 @@ BEGINNING = b'{"Answer":'
 
 
 def seconds_of(retry_after: Optional[str]) -> float:
-    """How long to wait for a Retry-After, which is a number of seconds, or a date: ten minutes at
-    most. What is neither asks for nothing.
-    """
-    if retry_after is None:
-        return 0.0
-    try:
-        seconds = (
-            float(retry_after)
-            if retry_after.strip().isdecimal()
-            else email.utils.parsedate_to_datetime(retry_after).timestamp() - time.time()
-        )
-    except (TypeError, ValueError, OverflowError, IndexError):
-        return 0.0
-    return min(max(0.0, seconds), LONGEST_WAIT)
+    """How long to wait for a Retry-After of so many seconds: ten minutes at most."""
+    text = (retry_after or "").strip()
+    return min(float(text), LONGEST_WAIT) if text.isdecimal() else 0.0
 
 
 def is_cut(body: bytes) -> bool:
