@@ -13,7 +13,7 @@ from unittest import mock
 import pytest
 from at_port import PATIENCE, SENDER
 
-from tracedesk import answers, disk, forms, sender, spool, words
+from tracedesk import answers, disk, sender, spool, words
 
 
 class Ended(BaseException):
@@ -262,14 +262,12 @@ def test_a_look_that_fails_ends_no_follower(lab: Lab) -> None:
     assert [it.split(".")[0] for it in told] == ["no memory", "no disk"]
 
 
-def test_of_a_line_that_is_far_too_long_the_beginning_is_kept(lab: Lab) -> None:
-    place, size = lab.out / "1.jsonl", 3 * forms.LONGEST_MESSAGE
-    place.write_bytes(b"a\n" + b"x" * size + b"\nb\n \n" + b"y" * 2 * size)
-    with mock.patch.object(disk, "LONGEST_LINE", size + 2):
-        assert spool.Spool(lab.folder).take_file(place) == 4
-    texts = lab.texts()
-    assert texts[:3] == [b"a", b"x" * size, b"b"]
-    assert set(texts[3]) == set(b"y") and forms.LONGEST_MESSAGE < len(texts[3]) <= size + 2
+def test_a_line_that_is_far_too_long_comes_in_pieces(lab: Lab) -> None:
+    place = lab.out / "1.jsonl"
+    place.write_bytes(b"a\n" + b"x" * 8 + b"\nb\n \n" + b"y" * 14)
+    with mock.patch.object(disk, "LONGEST_LINE", 9):
+        assert spool.Spool(lab.folder).take_file(place) == 5
+    assert lab.texts() == [b"a", b"x" * 8, b"b", b"y" * 9, b"y" * 5]
 
 
 def test_sent_messages_go_again_in_front(lab: Lab) -> None:

@@ -9,9 +9,7 @@ import os
 import pathlib
 from typing import BinaryIO, Iterator, List, Optional
 
-from . import forms
-
-LONGEST_LINE = 64 << 20  # bytes of a line that are kept; none of a message that a desk takes
+LONGEST_LINE = 64 << 20  # bytes of a line; none of a message that a desk takes
 
 
 class SpoolError(Exception):
@@ -63,18 +61,12 @@ def locked(path: pathlib.Path, why: str) -> Iterator[None]:
 
 
 def lines_of(stream: BinaryIO) -> Iterator[bytes]:
-    """The messages of a stream: its lines, without those of spaces alone. Of a line that is longer
-    than any message by far the beginning is kept.
+    """The messages of a stream: its lines, without those of spaces alone. One that is longer than
+    any message by far comes in pieces.
     """
-    most = forms.LONGEST_MESSAGE + 2
-    while line := stream.readline(most):
-        pieces, size = [line], len(line)
-        while not pieces[-1].endswith(b"\n") and (piece := stream.readline(most)):
-            size += len(piece)
-            pieces = [*pieces, piece] if size <= LONGEST_LINE else [*pieces[:-1], piece]
-        whole = b"".join(pieces)
-        if whole.strip():
-            yield whole.rstrip(b"\r\n")
+    while line := stream.readline(LONGEST_LINE):
+        if line.strip():
+            yield line.rstrip(b"\r\n")
 
 
 def files_in(folder: pathlib.Path) -> List[pathlib.Path]:
