@@ -2,7 +2,6 @@
 import contextlib
 import os
 import pathlib
-import random
 import subprocess
 import sys
 import tempfile
@@ -167,42 +166,6 @@ def test_an_answer_that_ends_anywhere_is_there_with_all_that_follows(lab: Lab) -
             assert lab.texts() == [b"b"] and after.names() == [behind]
             assert after.names("sent" if answers.is_taken(answer) else "aside") == [name]
     assert not is_ended
-
-
-def test_kills_lose_nothing_and_each_second_try_is_known(lab: Lab) -> None:
-    """Processes that put messages in, and that send, are killed at random moments."""
-    head = (
-        "import sys; sys.path.insert(0, sys.argv[1]); from tracedesk import Spool, answers\n"
-        "s, n = Spool(sys.argv[2]), int(sys.argv[3]); print(flush=True)\n"
-    )
-    puts = head + "while True: s.put(b'%d' % n); print(n, flush=True); n += 1"
-    sends = head + (
-        "with s.sending():\n  for it in s.names():\n    text, tried = s.take(it)\n"
-        "    print(it, text.decode(), int(tried), flush=True); s.done(it, answers.LINE_TOO_LONG)"
-    )
-    chance, kept, sent, n = random.Random(1), [], [], 0  # type: Any, list[int], list[Any], int
-
-    def run(code: str, seconds: float) -> list[Any]:
-        words = [sys.executable, "-c", code, str(SENDER.parent), str(lab.folder), str(n)]
-        with subprocess.Popen(words, stdout=subprocess.PIPE, bufsize=0) as process:
-            assert process.stdout
-            process.stdout.readline()  # it begins
-            try:  # what it prints is read meanwhile: a full pipe would hold it
-                said = process.communicate(timeout=seconds)[0]
-            except subprocess.TimeoutExpired:
-                process.kill()
-                said = process.communicate()[0]
-            return [it.split() for it in said.splitlines(True) if it[-1:] == b"\n"]
-
-    for _ in range(8):
-        kept += [int(it) for (it,) in run(puts, chance.random() / 5)]
-        n = kept[-1] + 2 if kept else 0  # one more may be there
-        sent += run(sends, chance.random() / 5)
-    sent += run(sends, PATIENCE)
-    assert kept and set(kept) <= {int(text) for _, text, _ in sent}
-    assert [it[0] for it in sent] == sorted(it[0] for it in sent)
-    again = [after for before, after in zip(sent, sent[1:]) if before[0] == after[0]]
-    assert all(tried == b"1" for _, _, tried in again)
 
 
 def test_a_file_that_is_taken_in_anywhere_is_in_once(lab: Lab) -> None:
