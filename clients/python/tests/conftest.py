@@ -4,6 +4,7 @@ all tests.
     /usr/bin/python3 -m pytest clients/python/tests -m gate
     /usr/bin/python3 -m pytest clients/python/tests/test_interlock.py -k mended
     /usr/bin/python3 -m pytest clients/python/tests/test_line_world.py --walks 1000 --seed 7
+    /usr/bin/python3 -m pytest clients/python/tests/test_command.py -k refusals --refusals 500 -s
 """
 import pathlib
 import sys
@@ -20,6 +21,8 @@ from line_lab import Line, Served  # noqa: E402
 def pytest_addoption(parser: pytest.Parser) -> None:
     about = "so many walks of a machine that obeys the interlock (3)"
     parser.addoption("--walks", type=int, default=3, metavar="N", help=about)
+    about = "so many refusals to a machine, and to a tablet, and kills of its sender (1)"
+    parser.addoption("--refusals", type=int, default=1, metavar="N", help=about)
 
 
 @pytest.fixture(scope="session")

@@ -162,9 +162,8 @@ class Line(Served):
     def start(self, board: str = "B1") -> None:
         assert self.report("WorkStarted", Board=board) == f"go {board}"
 
-    def install(self, board: str, *names: str, reels: Any = None) -> str:
-        more = {} if reels is None else {"MachineReels": reels}
-        return self.report("MaterialsInstalled", Board=board, Designators=list(names), **more)
+    def install(self, board: str, *names: str) -> str:
+        return self.report("MaterialsInstalled", Board=board, Designators=list(names))
 
     def look(self) -> str:
         """The word of the threads, without a question."""

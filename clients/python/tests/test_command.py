@@ -5,11 +5,12 @@ from __future__ import annotations
 
 import json
 import pathlib
+import random
 import signal
 import subprocess
 import sys
 import time
-from typing import Iterator
+from typing import Dict, Iterator, List
 
 import interlocked
 import pytest
@@ -27,16 +28,32 @@ def plant(line_program: pathlib.Path, tmp_path: pathlib.Path) -> Iterator[interl
     made.end()
 
 
-@pytest.mark.parametrize("many", [1, pytest.param(6, marks=pytest.mark.whole)])
-def test_refusals_and_kills_end_in_stop(line_program: pathlib.Path, many: int) -> None:
-    told = interlocked.run(line_program, kills=many, refusals=many, tablets=many, seed=1)
-    assert [told[it] for it in ("stopped", "refused by machine", "refused by tablet")] == [many] * 3
+def test_refusals_and_kills_end_in_stop(
+    plant: interlocked.Plant, request: pytest.FixtureRequest, seed: int
+) -> None:
+    """--refusals N of the machine, as many of a tablet, and as many kills, in any order. Prints the
+    seconds from a refusal to the last moment in which the machine might work.
+    """
+    many, chance = request.config.getoption("--refusals"), random.Random(seed)
+    took: Dict[str, List[float]] = {"by machine": [], "by tablet": []}
+    deeds = ["kill", *took] * many
+    chance.shuffle(deeds)
+    plant.start()
+    for deed in deeds:
+        if deed == "kill":
+            assert plant.is_stopped_by_a_kill(chance)
+        else:
+            took[deed].append(plant.refusal(deed == "by tablet"))
+    for name, its in took.items():
+        its.sort()
+        figures = f"median {its[many // 2]:.3f}, 99 % {its[many * 99 // 100]:.3f}"
+        print(f"{many} refused {name}: {figures}, most {its[-1]:.3f} s")
 
 
 def test_a_start_that_is_handed_over_stops_while_the_desk_hangs(plant: interlocked.Plant) -> None:
     plant.start()
     plant.begin_board()
-    plant.wait_for(plant.is_permitted)
+    plant.works()
     plant.line.process.send_signal(signal.SIGSTOP)
     plant.say(plant.message("MaterialsScrapped", Slot="1", Quantity=1))
     handed = time.time()
@@ -50,9 +67,9 @@ def test_a_start_that_is_handed_over_stops_while_the_desk_hangs(plant: interlock
 def test_a_desk_that_hangs_stops(plant: interlocked.Plant) -> None:
     plant.start()
     plant.begin_board()
-    plant.wait_for(plant.is_permitted)
+    plant.works()
     time.sleep(4)  # longer than the silence after which it stops
-    plant.wait_for(plant.is_permitted)  # a machine without messages may work while the desk answers
+    plant.works()  # a machine without messages may work while the desk answers
     plant.line.process.send_signal(signal.SIGSTOP)
     plant.wait_for(
         lambda: list(plant.calls())[-1][1:] == ("stop", "silent: no answer for 3 seconds")
@@ -76,7 +93,7 @@ def test_a_program_that_is_killed_stops_its_machine(plant: interlocked.Plant) ->
         plant.board = "B1"
         start = json.dumps(plant.message("WorkStarted", Board="B1")).encode()
         spool.Spool(plant.room / "spool").put(start)
-        plant.wait_for(plant.is_permitted)
+        plant.works()
         program.kill()
     wanted = "silent: the program of M1 doesn't run"
     plant.wait_for(lambda: list(plant.calls())[-1][2].startswith(wanted))
@@ -104,7 +121,7 @@ def test_a_signal_ends_a_sender_in_a_call_that_hangs(plant: interlocked.Plant) -
 def test_a_signal_ends_a_sender_while_the_desk_hangs(plant: interlocked.Plant) -> None:
     plant.start()
     plant.begin_board()
-    plant.wait_for(plant.is_permitted)
+    plant.works()
     plant.line.process.send_signal(signal.SIGSTOP)
     plant.say(plant.message("MaterialsScrapped", Slot="1", Quantity=1))
     time.sleep(1)
@@ -119,7 +136,7 @@ def test_machines_do_not_wait_for_each_other(plant: interlocked.Plant) -> None:
         plant.words += ["--machine", name]
     plant.start()
     plant.begin_board()
-    plant.wait_for(plant.is_permitted)
+    plant.works()
     assert plant.refusal(False) < 3 * LONGEST_CALL
 
 
@@ -145,7 +162,7 @@ def test_a_stopped_sender_says_no_old_go(plant: interlocked.Plant, many: int) ->
     """A sender that sleeps, with its computer or without, asks before it permits anything."""
     plant.start()
     plant.begin_board()
-    plant.wait_for(plant.is_permitted)
+    plant.works()
     for _ in range(many):
         plant.sender.send_signal(signal.SIGSTOP)
         plant.line.scan("MaterialsUnloaded", "1")
@@ -155,4 +172,4 @@ def test_a_stopped_sender_says_no_old_go(plant: interlocked.Plant, many: int) ->
         plant.wait_for(lambda: any(at > woken + 0.5 for at, _, _ in plant.calls()))
         assert not any(state == "go" for at, state, _ in plant.calls() if at > woken)
         plant.line.scan("MaterialsLoaded", "1", "1-K1")
-        plant.wait_for(plant.is_permitted)
+        plant.works()

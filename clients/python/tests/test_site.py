@@ -3,26 +3,18 @@ interlock.
 """
 from __future__ import annotations
 
-import contextlib
 import json
-import os
 import pathlib
-import shutil
-import subprocess
-import sys
 import tempfile
 import time
-from typing import Any, Callable, Dict, Iterator, List, Tuple
+from typing import Any, Dict, Iterator, List
 
+import at_port
+import interlocked
 import pytest
+from station_site import Site
 
-ROOT = pathlib.Path(__file__).resolve().parents[3]
-sys.path.insert(0, str(ROOT / "station/tests"))
-import at_port  # noqa: E402
-from station_site import Site  # noqa: E402
-
-HAS_NGINX = shutil.which("nginx", path=os.environ.get("PATH", "") + ":/usr/sbin")
-SENDER = ROOT / "clients/python/tracedesk-send"
+pytestmark = pytest.mark.needs("nginx", "openssl")
 DECISIONS = "/line/decisions"
 FOREIGN: List[Dict[str, str]] = [
     {"Origin": "https://elsewhere.example"},
@@ -33,8 +25,6 @@ FOREIGN: List[Dict[str, str]] = [
 
 @pytest.fixture(scope="module")
 def site(program: pathlib.Path, line_program: pathlib.Path) -> Iterator[Any]:
-    if not HAS_NGINX or not shutil.which("openssl"):
-        pytest.skip("there is no nginx or openssl: apt-get install nginx-light openssl")
     with tempfile.TemporaryDirectory(prefix="LN-site-") as room:
         with Site(str(program), room) as made:
             yield made
@@ -77,12 +67,12 @@ def test_what_another_site_has_a_browser_send_is_refused(
     assert site.asked("GET", "/overdue", "op", Origin=site.url)[0] == 200
 
 
-def message(word: str, uid: str, **body: Any) -> str:
+def message(word: str, uid: str, **body: Any) -> Dict[str, Any]:
     at = time.strftime("%Y-%m-%dT%H:%M:%SZ", time.gmtime())
-    return json.dumps(at_port.told(word, uid, "tablet", at, Machine="M1", **body))
+    return at_port.told(word, uid, "tablet", at, Machine="M1", **body)
 
 
-def plant(site: Any, reels: Tuple[str, ...] = ("K-1",)) -> None:
+def plant(site: Any) -> None:
     site.say("PartDefined", {"PartNumber": "CAP"})
     site.say("PartDefined", {"PartNumber": "RES"})
     rows = [{"Slot": "1", "PartNumber": "CAP", "Designators": ["C1"]}]
@@ -114,60 +104,27 @@ def test_who_may_say_what_of_the_book(site: Any) -> None:
 
 
 def tablet(site: Any, word: str, uid: str, **body: Any) -> int:
-    status: int = site.asked("POST", "/station/messages", "op", message(word, uid, **body))[0]
+    told = json.dumps(message(word, uid, **body))
+    status: int = site.asked("POST", "/station/messages", "op", told)[0]
     return status
-
-
-class Sender:
-    """A sender with an interlock, by the log-in of the machine."""
-
-    def __init__(self, site: Any, room: pathlib.Path) -> None:
-        self.log, self.out = room / "calls", room / "out"
-        self.out.mkdir()
-        self.log.touch()
-        permit = room / "permit"
-        permit.write_text(f'#!/bin/sh\necho "$2" >> {self.log}\n')
-        permit.chmod(0o755)
-        where = ["--url", site.url, "--ca", str(site.room / "etc/server.crt")]
-        who = ["--cert", str(site.room / "etc/m2.crt"), "--key", str(site.room / "etc/m2.key")]
-        spool = ["--spool", str(room / "spool"), "--follow", str(self.out)]
-        lock = ["--interlock", str(permit), "--machine", "M1"]
-        self.run = subprocess.Popen([sys.executable, str(SENDER), *where, *who, *spool, *lock])
-
-    def say(self, text: str) -> None:
-        (self.out / "x.tmp").write_text(text + "\n")
-        (self.out / "x.tmp").rename(self.out / f"{time.time_ns()}.json")
-
-    def wait_for(self, word: str) -> None:
-        def last() -> str:
-            return (self.log.read_text().splitlines() or [""])[-1]
-
-        until(lambda: last().startswith(word), last)
-
-
-def until(holds: Callable[[], bool], last: Callable[[], str], seconds: float = 600.0) -> None:
-    end = time.monotonic() + seconds
-    while not holds():
-        assert time.monotonic() < end, f"it doesn't come: {last()}"
-        time.sleep(0.05)
 
 
 def test_a_tablet_stops_and_mends_a_machine(site: Any, tmp_path: pathlib.Path) -> None:
     plant(site)
     tablet(site, "MaterialsUnloaded", "u-1", Slot="1")
     tablet(site, "MaterialsLoaded", "u-2", Slot="1", Reel="K-2")
-    it = Sender(site, tmp_path)
+    etc = site.room / "etc"
+    who = ["--ca", etc / "server.crt", "--cert", etc / "m2.crt", "--key", etc / "m2.key"]
+    it = interlocked.Locked(tmp_path, site.url, *who)
+    it.start()
     try:
         it.say(message("WorkStarted", "w-1", Board="B1"))
-        it.wait_for("go B1")
+        it.wait_for_word("go B1")
         assert tablet(site, "MaterialsSpliced", "u-3", Slot="1", Reel="WRONG") == 409
-        it.wait_for("stop Open (slot 1, WRONG, WrongPart")
+        it.wait_for_word("stop Open (slot 1, WRONG, WrongPart")
         assert tablet(site, "MaterialsSpliced", "u-4", Slot="1", Reel="K-1") == 200
-        it.wait_for("go B1")
+        it.wait_for_word("go B1")
         assert tablet(site, "MaterialsUnloaded", "u-5", Slot="1") == 200
-        it.wait_for("stop AtSlot (slot 1, SlotEmpty")
+        it.wait_for_word("stop AtSlot (slot 1, SlotEmpty")
     finally:
-        it.run.terminate()
-        it.run.wait()
-    with contextlib.suppress(IndexError):
-        assert it.log.read_text().splitlines()[-1] == "stop ended: the sender was ended"
+        it.end()
