@@ -4,8 +4,9 @@ from __future__ import annotations
 import argparse
 import collections
 import contextlib
+import gzip
 import importlib
-import json
+import io
 import time
 import zlib
 from typing import Any, Deque, List, NoReturn, Tuple, Type
@@ -82,37 +83,22 @@ class Source:
 # --- The bytes of a message
 
 
-def plain(value: Any) -> Any:
-    """A value of a broker as JSON has it. What is neither text nor number nor a list or a map of
-    them is spelled as Python does.
-    """
-    if isinstance(value, dict):
-        return {str(plain(name)): plain(it) for name, it in value.items()}
-    if isinstance(value, (list, tuple)):
-        return [plain(it) for it in value]
-    if isinstance(value, (bytes, memoryview, bytearray)):
-        return bytes(value).decode(errors="backslashreplace")
-    return value if value is None or isinstance(value, (str, bool, int, float)) else repr(value)
-
-
 def unpacked(message: Any) -> bytes:
-    """The bytes of a message of a broker, which may be packed."""
+    """The bytes of a message of a broker, which may be packed. A body of another kind than texts and
+    bytes is no record: who looks at it sees it as Python spells it.
+    """
     body = message.body
-    if not isinstance(body, (str, bytes, memoryview, bytearray)):
-        return json.dumps(plain(body)).encode()
-    return unzipped(body.encode(errors="surrogatepass") if isinstance(body, str) else bytes(body))
+    if isinstance(body, (bytes, memoryview, bytearray)):
+        return unzipped(bytes(body))
+    return (body if isinstance(body, str) else repr(body)).encode(errors="surrogatepass")
 
 
 def unzipped(data: bytes) -> bytes:
     """What gzip has packed, whole; else the bytes as they are."""
-    text, rest = b"", data
-    with contextlib.suppress(zlib.error):
-        while rest[:2] == b"\x1f\x8b" and len(text) < LONGEST:
-            packed = zlib.decompressobj(31)
-            text += packed.decompress(rest, LONGEST - len(text))
-            rest = packed.unused_data if packed.eof else rest[:1]  # one that isn't whole is none
-            if not rest.strip(b"\0"):
-                return text
+    if data[:2] == b"\x1f\x8b":
+        with contextlib.suppress(OSError, EOFError, zlib.error):
+            text = gzip.GzipFile(fileobj=io.BytesIO(data)).read(LONGEST + 1)
+            return text if len(text) <= LONGEST else data
     return data
 
 

@@ -88,14 +88,14 @@ def test_what_no_one_can_read_is_a_dead_letter(room: Room, broker: Broker) -> No
     assert broker.left() == 0
     dead = room.dead()
     assert len(dead) == 2
-    assert b"\\\\xff" in dead[0] and b"\xff\xfeQQ" in dead[1]
+    assert b"\\xff" in dead[0] and b"\xff\xfeQQ" in dead[1]
 
 
 def test_a_day_from_a_broker_is_traced_after_kills(
     program: pathlib.Path, tmp_path: pathlib.Path, seed: int
 ) -> None:
     """Also nothing is left in the queue."""
-    run = RunByBroker(program, tmp_path, seed, panels=20, kills=12)
+    run = RunByBroker(program, tmp_path, seed, boards=60, kills=12)
     try:
         run.go()
         run.look_at_all()
