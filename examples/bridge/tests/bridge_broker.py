@@ -154,9 +154,9 @@ class RunByBroker(Run):
     """
 
     def __init__(
-        self, program: pathlib.Path, at: pathlib.Path, seed: int, panels: int, kills: int
+        self, program: pathlib.Path, at: pathlib.Path, seed: int, boards: int, kills: int
     ) -> None:
-        super().__init__(program, at, seed, panels, kills)
+        super().__init__(program, at, seed, boards, kills)
         self.broker, self.broker_kills = Broker(self.at / "broker"), 2
 
     def source(self) -> list[Any]:

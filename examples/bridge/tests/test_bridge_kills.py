@@ -4,13 +4,13 @@ import pathlib
 import pytest
 from bridge_day import Run
 
-LONG = 100  # panels of the long test, with 60 kills
+LONG = 300  # boards of the long test, with 60 kills
 
 
 def test_a_day_is_traced_after_kills(
-    program: pathlib.Path, tmp_path: pathlib.Path, seed: int, panels: int = 20, kills: int = 12
+    program: pathlib.Path, tmp_path: pathlib.Path, seed: int, boards: int = 60, kills: int = 12
 ) -> None:
-    run = Run(program, tmp_path, seed, panels, kills)
+    run = Run(program, tmp_path, seed, boards, kills)
     try:
         run.go()
         run.look_at_all()
