@@ -142,15 +142,6 @@ def test_a_slot_that_is_on_no_sheet_is_closed_by_whoever_scans_its_reel(line: Li
     assert line.word() == "go B1"
 
 
-def test_a_decision_closes_a_refusal(line: Line) -> None:
-    """TAKEN OFF: the right reel never moved, and nobody has to scan it again."""
-    line.start()
-    line.scan("MaterialsSpliced", "1", "2-K2")
-    assert line.word().startswith("stop Open")
-    line.decide(1, "taken off")
-    assert line.word() == "go B1"
-
-
 def test_a_refused_report_stops_until_a_start_or_a_decision(line: Line) -> None:
     """The half-placed board may go on once somebody has looked at it."""
     line.start()

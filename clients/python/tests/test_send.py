@@ -149,68 +149,40 @@ def test_two_senders_of_a_folder_lose_nothing(lab: Lab) -> None:
             it.wait()
 
 
-def test_check_and_validate(lab: Lab) -> None:
-    done = subprocess.run(
-        [sys.executable, str(SENDER), "--url", lab.words()[3], "--check"],
-        capture_output=True,
-        timeout=PATIENCE,
-    )
+def test_check_says_what_is_wrong(lab: Lab) -> None:
+    words = [sys.executable, str(SENDER), "--url", lab.url, "--check"]
+    done = subprocess.run(words, capture_output=True, timeout=PATIENCE)
     assert (done.returncode, b"no answer of a desk" in done.stdout) == (1, True), done
-    bad = lab.room / "bad.jsonl"
-    changes: list[dict[str, Any]] = [
-        {},
-        {"TimeStamp": "02.03.2026 06:00"},
-        {"MessageName": "TraceDesk.PartsDefined"},
-        {"MessageBody": {"PartNo": "x"}},
-        {"TimeStamp": "2026-02-30T06:00:00Z"},
-        {"Source": " x"},
-    ]
-    told = json.loads(line("u1"))
-    bad.write_text("".join(json.dumps({**told, **change}) + "\n" for change in changes) + "{\n")
-    words = [sys.executable, str(SENDER), "--validate", str(bad)]
-    looked = subprocess.run(words, capture_output=True, text=True, timeout=PATIENCE)
-    assert looked.returncode == 1
-    assert [it.split(":")[0] for it in looked.stdout.splitlines()] == [
-        *(f"line {n}" for n in range(2, 8)),
-        "7 messages, 6 of them wrong",
-    ]
-    for part in (
-        "write it as 2026-03-02T06:00:00Z",
-        "is TraceDesk.PartDefined meant?",
-        "PartNumber: it is not there; is PartNo meant?",
-        "in no calendar",
-    ):
-        assert part in looked.stdout
 
 
-def test_validate_warns_of_members_that_nobody_reads(tmp_path: pathlib.Path) -> None:
-    """A mistyped one passes, since a desk takes it too; it is named, with what may be meant."""
-    body = {"Machine": "M1", "Board": "B", "Designators": ["C1"]}
-    told = {
-        "MessageName": "TraceDesk.MaterialsInstalled",
-        "UniqueID": "a",
-        "Source": "M1",
-        "TimeStamp": "2026-03-02T07:00:00Z",
-    }
-    bodies: list[dict[str, Any]] = [
-        {**body, "MachineReels": ["K-1"]},
-        {**body, "MachineReal": ["K-1"]},
-        {**body, "MachineReels": ["K-1", "K-2"]},
+def test_validate_says_of_each_line_what_is_wrong_first() -> None:
+    """A member that nobody reads passes, since a desk takes it too; it is named, with what may be
+    meant.
+    """
+    body = {"Machine": "M1", "Board": "B", "Designators": ["C1"], "MachineReels": ["K-1"]}
+    told = {**json.loads(line("u1", "MaterialsInstalled")), "MessageBody": body}
+    few, twice = {"Machine": "M1", "Bord": "B"}, {**body, "MachineReels": ["K-1", "K-2"]}
+    looked: list[tuple[dict[str, Any], str]] = [
+        ({}, ""),
+        ({"TimeStamp": "02.03.2026 06:00"}, "write it as 2026-03-02T06:00:00Z"),
+        ({"TimeStamp": "2026-02-30T06:00:00Z"}, "in no calendar"),
+        ({"MessageName": "TraceDesk.MaterialInstalled"}, "MaterialsInstalled meant?"),
+        ({"Source": " x"}, "Source: ' x' is not a text of"),
+        ({"MessageBody": few}, "Board: it is not there; is Bord meant?"),
+        ({"MessageBody": twice}, "MachineReels: it has 2 elements for 1 pieces"),
+        (
+            {"MessageBody": {**body, "MachineReal": []}},
+            "warning: MachineReal: MaterialsInstalled has",
+        ),
     ]
-    lines = [json.dumps({**told, "MessageBody": it}) for it in bodies]
+    given = "\n".join([*(json.dumps({**told, **change}) for change, _ in looked), "{"])
     words = [sys.executable, str(SENDER), "--validate", "-"]
-    given = "\n".join(lines[:2])
     done = subprocess.run(words, input=given, capture_output=True, text=True, timeout=PATIENCE)
-    assert (done.returncode, done.stdout.splitlines()) == (
-        0,
-        [
-            "line 2: warning: MachineReal: MaterialsInstalled has no such member; is MachineReels"
-            " meant?",
-            "2 messages, 0 of them wrong",
-        ],
-    )
-    done = subprocess.run(words, input=lines[2], capture_output=True, text=True, timeout=PATIENCE)
-    assert (done.returncode, "2 elements for 1 pieces" in done.stdout) == (1, True)
+    wanted = [(n, why) for n, (_, why) in enumerate([*looked, ("", "Expecting")], 1) if why]
+    said = done.stdout.splitlines()
+    assert (done.returncode, said.pop()) == (1, "9 messages, 7 of them wrong")
+    for text, (number, why) in zip(said, wanted, strict=True):
+        assert text.startswith(f"line {number}: ") and why in text, text
 
 
 def test_patience_ends(lab: Lab) -> None:
