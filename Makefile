@@ -52,7 +52,7 @@ bridge-test:   ## the bridge: its filter, its sources, kills, and kills of Rabbi
 	@/usr/bin/python3 -m pytest -q examples/bridge/tests
 station-test:  ## the station in headless Chromium behind nginx: each flow, kills, looks: docs/station.md | 15 min | chromium chromium-driver python3-selenium nginx zbar-tools poppler-utils openssl
 	$(say)
-	@station/tests/station-test
+	@/usr/bin/python3 -m pytest -q station/tests
 plant-test:    ## installs the packages on a fresh Debian 12 of its own, and over those of 1.0.0 on another, as root, and follows docs/operations-*.md there | 20 min | debootstrap iproute2 pandoc help2man binutils debhelper dpkg-dev python3-pytest python3-pytest-xdist
 	$(say)
 	@/usr/bin/python3 -m pytest -q -n 2 --dist=loadgroup ops/tests/test_installed*.py

@@ -2,6 +2,7 @@
 the desk stations use up.
 """
 import json
+import pathlib
 import statistics
 import time
 from typing import Any
@@ -13,7 +14,7 @@ from station_site import SETUP, Site
 from tracedesk_dev.trial import Difference, in_memory
 
 A_DAY, KITS = 86_400, 300  # seconds; the second is the page's period of its sheets
-MILLION = 1_000_000
+MILLION, SCANS = 1_000_000, 5_000  # connections; and scans, after which the memory is looked at
 PERIODS = """return Promise.all([import("/station/model.js"), import("/station/setup.js")])
     .then(([model, { USUAL }]) => [2, 4, 8].map((machines) => [model.period(machines, USUAL.connectionsADay), model.kitsADay(machines)]))"""
 
@@ -109,27 +110,26 @@ def each_scan(site: Site) -> Any:
     return told
 
 
-def measure(program: str, scans: Any) -> Any:
-    """From scan to verdict on each screen, the tab's memory over so many scans, and the connections
-    of a scan; the exit status.
+def test_costs(program: pathlib.Path, browses: None) -> None:
+    """From scan to verdict on each screen, the tab's memory over many scans, and the connections of
+    a scan.
     """
 
     def say(name: str, value: Any) -> None:
         print(json.dumps({name: value}), flush=True)
 
-    with Site(program, in_memory()) as site:
+    with Site(str(program), in_memory()) as site:
         say("from scan to verdict, milliseconds", to_a_verdict(site))
-    with Site(program, in_memory()) as site:
+    with Site(str(program), in_memory()) as site:
         plant(site)
         with Operator(site) as it:
             it.ready()
             memory, answers = [round(heap(it), 1)], site.connections()
-            for _ in range(0, scans, 500):
-                many(it, min(500, scans))
+            for _ in range(SCANS // 500):
+                many(it, 500)
                 memory.append(round(heap(it), 1))
             say(
                 "heap of the tab, MB, at first and after each 500 scans",
                 {"heap": memory, "connections": site.connections() - answers},
             )
         say("connections of a scan", each_scan(site))
-    return 0

@@ -5,6 +5,7 @@ import contextlib
 import pathlib
 import time
 
+import pytest
 from station_line import real_line, shown_tiles, view
 from station_looks import SCREEN, set_up
 from station_operator import Operator
@@ -94,10 +95,11 @@ def logged_out(it: Operator, into: pathlib.Path) -> None:
     taken(it, into, "log-in")
 
 
-def pictures(program: str, into: pathlib.Path) -> int:
-    """Takes each picture; the exit status."""
+def test_pictures(program: pathlib.Path, browses: None, request: pytest.FixtureRequest) -> None:
+    """Takes each picture, into --pictures FOLDER."""
+    into: pathlib.Path = request.config.getoption("--pictures")
     into.mkdir(parents=True, exist_ok=True)
-    with Site(program, in_memory()) as site:
+    with Site(str(program), in_memory()) as site:
         plant(site)
         more_reels(site)
         site.set_up({**SETUP, "places": PLACES})
@@ -114,7 +116,7 @@ def pictures(program: str, into: pathlib.Path) -> int:
             in_languages(it, into)
             it.load("&lang=en")
             logged_out(it.ready(), into)
-    with Site(program, in_memory()) as site:
+    with Site(str(program), in_memory()) as site:
         told = real_line(site)
         site.say("MaterialsUnloaded", {"Machine": told.machines[0], "Slot": "3"})
         first = told.machines[0]
@@ -128,4 +130,3 @@ def pictures(program: str, into: pathlib.Path) -> int:
             wait_for("the slot is held", lambda: "is empty" in it.text("held"))
             taken(it, into, "held")
     print("\n".join(sorted(str(it) for it in into.glob("station-*.png"))))
-    return 0

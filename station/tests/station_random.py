@@ -1,7 +1,6 @@
 """Random hands at the station, while answers are lost: nothing is green that the desk has not, and
 no refusal goes unseen.
 """
-import concurrent.futures
 import contextlib
 import json
 import random
@@ -352,28 +351,3 @@ def words(sums: Any) -> Any:
         f"{done} sequences, {messages} messages, {lost} requests and answers lost: {greens} greens,"
         f" each at the desk; {reds} refusals, each shown until it was seen"
     )
-
-
-def run(program: str, count: int, jobs: int, seed: int) -> Any:
-    """The long form: the exit status."""
-    sums, failed, begun = [0] * 5, 0, time.monotonic()
-    with concurrent.futures.ThreadPoolExecutor(jobs) as threads:
-        asked = {
-            threads.submit(batch, program, seed + at, min(BATCH, count - at)): seed + at
-            for at in range(0, count, BATCH)
-        }
-        for one in concurrent.futures.as_completed(asked):
-            try:
-                sums = [a + b for a, b in zip(sums, one.result())]
-                print(f"{words(sums)} ({time.monotonic() - begun:.0f} s)", flush=True)
-            except Exception as fault:  # whatever it is, the other batches go on
-                failed += 1
-                print(
-                    (
-                        f"FAILED  the {BATCH} of seed {asked[one]}:"
-                        f" {type(fault).__name__} {str(fault)[:1500]}"
-                    ),
-                    flush=True,
-                )
-    print(f"{sums[3]} passed, {failed} failed")
-    return 1 if failed else 0

@@ -1,5 +1,5 @@
-"""What station/tests/station-test stands on: the program behind the packaged nginx in a folder of
-its own, and a browser before it.
+"""What the station's tests stand on: the program behind the packaged nginx in a folder of its own,
+and a browser before it.
 """
 import base64
 import contextlib
@@ -34,7 +34,7 @@ SETUP: dict[str, Any] = {
 }
 PATIENCE = 600  # seconds: of a machine that has much to do
 BOUNCE = 1.2  # seconds: the same action code within one is taken for one that was read twice
-slower = 1  # each wait takes so many times as long: station-test --slower
+slower = 1  # each wait takes so many times as long: --slower
 
 
 def missing() -> Any:

@@ -1,13 +1,15 @@
-"""A few random hands, while answers are lost."""
+"""Random hands, while answers are lost: a few, or --sequences N, of which the first has --seed N."""
 
 import pytest
-from station_random import batch, words
+from station_random import BATCH, batch, words
 from station_site import Site
 
 pytestmark = pytest.mark.browser
 
 
 @pytest.mark.gate
-def test_a_few_random_hands(site: Site) -> None:
-    """The short form."""
-    print(words(batch(site.program, 1, 3, 6)))
+def test_random_hands(site: Site, request: pytest.FixtureRequest, seed: int) -> None:
+    if not (count := request.config.getoption("--sequences")):
+        print(words(batch(site.program, seed, 3, 6)))
+    for at in range(0, count, BATCH):
+        print(words(batch(site.program, seed + at, min(BATCH, count - at))), flush=True)
