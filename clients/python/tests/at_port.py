@@ -7,11 +7,22 @@ import json
 import pathlib
 import sqlite3
 import threading
-from typing import Any, Dict, List, Mapping, Tuple
+import time
+from typing import Any, Callable, Dict, List, Mapping, Tuple, TypeVar
 
 PATIENCE = 120  # seconds for what must come: a machine may be busy
 SENDER = pathlib.Path(__file__).resolve().parents[1] / "tracedesk-send"
 MORNING = "2026-03-02T06:00:00Z"
+Found = TypeVar("Found")
+
+
+def until(call: Callable[[], Found], said: Callable[[], object] = lambda: "") -> Found:
+    """What a call finds, once that is something; `said` is what a fault has."""
+    end = time.monotonic() + PATIENCE
+    while not (found := call()):
+        assert time.monotonic() < end, said()
+        time.sleep(0.02)
+    return found
 
 
 def told(word: str, uid: str, source: str = "S", at: str = MORNING, **body: Any) -> Dict[str, Any]:

@@ -6,7 +6,7 @@ import pathlib
 import subprocess
 import sys
 import time
-from typing import Any, Callable, Dict, Tuple
+from typing import Any, Dict, Tuple
 
 import at_port
 from at_port import PATIENCE, SENDER
@@ -85,9 +85,3 @@ class Lab:
 
     def names(self, state: str = "waiting") -> list[str]:
         return list(at_port.texts_in(self.spool, state))
-
-    def wait_for(self, call: Callable[[], object]) -> None:
-        end = time.monotonic() + PATIENCE
-        while not call():
-            assert time.monotonic() < end
-            time.sleep(0.05)

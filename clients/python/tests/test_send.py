@@ -132,7 +132,7 @@ def test_two_senders_of_a_folder_lose_nothing(lab: Lab) -> None:
     """The folder is made anew, so that the lock on it holds no second sender off."""
     running = [subprocess.Popen(lab.words("--follow", lab.out), stderr=subprocess.DEVNULL)]
     try:
-        lab.wait_for(lambda: at_port.rows_in(lab.spool, "SELECT 1 FROM kept"))
+        at_port.until(lambda: at_port.rows_in(lab.spool, "SELECT 1 FROM kept"))
         lab.out.rmdir()
         lab.out.mkdir()
         words = lab.words("--follow", lab.out)
@@ -142,7 +142,7 @@ def test_two_senders_of_a_folder_lose_nothing(lab: Lab) -> None:
         for number in range(60):
             (lab.out / "x.tmp").write_bytes(b"\n".join(line(f"u{number}{n}") for n in range(3)))
             (lab.out / "x.tmp").rename(lab.out / f"{number:03}.jsonl")
-        lab.wait_for(lambda: set(lab.uids()) == wanted)
+        at_port.until(lambda: set(lab.uids()) == wanted)
     finally:
         for it in running:
             it.kill()

@@ -9,11 +9,10 @@ import pathlib
 import sqlite3
 import subprocess
 import sys
-import time
 from typing import Any, Iterable, Optional
 
 import at_port
-from at_port import PATIENCE
+from at_port import PATIENCE, until
 from tracedesk_dev import ROOT
 
 BRIDGE = ROOT / "examples/bridge/tracedesk-bridge"
@@ -127,10 +126,7 @@ class Room:
             database.commit()
 
     def wait_for(self, wanted: list[str]) -> None:
-        end = time.monotonic() + PATIENCE
-        while self.waiting() != wanted:
-            assert time.monotonic() <= end, f"wanted {wanted}, got {self.waiting()}"
-            time.sleep(0.02)
+        until(lambda: self.waiting() == wanted, lambda: f"wanted {wanted}, got {self.waiting()}")
 
     def position(self) -> Optional[int]:
         """How far the bridge has kept that the file was read; none where it has kept nothing."""
@@ -141,11 +137,7 @@ class Room:
 
     def wait_until_at(self, place: int) -> None:
         """Waits until the bridge has kept that it read to this place of its file."""
-        end = time.monotonic() + PATIENCE
-        while self.position() != place:
-            assert time.monotonic() <= end, f"the bridge has kept {self.position()}"
-            assert self.running and self.running.poll() is None
-            time.sleep(0.02)
+        until(lambda: self.position() == place, lambda: f"the bridge has kept {self.position()}")
 
     def dead(self) -> list[bytes]:
         return [it.read_bytes() for it in sorted(self.aside.glob("*.json"))]

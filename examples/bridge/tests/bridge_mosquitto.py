@@ -5,11 +5,10 @@ import contextlib
 import importlib
 import pathlib
 import subprocess
-import time
 import uuid
 from typing import Any, Optional
 
-from at_port import PATIENCE
+from at_port import PATIENCE, until
 from tracedesk_dev.ports import free_port
 
 
@@ -36,30 +35,33 @@ class Mosquitto:
             self.running.wait()
             self.running = None
 
+    def told(self) -> str:
+        return (self.at / "told.txt").read_text()
+
     def wait_until_kept(self) -> None:
         """Waits until all that the broker has by now is in its file, by a mark that comes last."""
         mqtt = importlib.import_module("paho.mqtt.client")
         mark, file = uuid.uuid4().hex.encode(), self.at / "mosquitto.db"
-        client, end = mqtt.Client(), time.monotonic() + PATIENCE
+        client = mqtt.Client()
         client.connect("127.0.0.1", self.port)
         client.loop_start()
         client.publish("mark", mark, qos=1, retain=True).wait_for_publish(PATIENCE)
         client.disconnect()
         client.loop_stop()
-        while not file.exists() or mark not in file.read_bytes():
-            assert time.monotonic() < end, (self.at / "told.txt").read_text()
-            time.sleep(0.05)
+        until(lambda: file.exists() and mark in file.read_bytes(), self.told)
 
     def send(self, topic: str, *messages: bytes, quality: int = 1) -> None:
         """Publishes messages, and comes back once the broker has them."""
         mqtt = importlib.import_module("paho.mqtt.client")
-        client, end = mqtt.Client(), time.monotonic() + PATIENCE
-        while True:
+        client = mqtt.Client()
+
+        def is_connected() -> bool:
             with contextlib.suppress(OSError):
                 client.connect("127.0.0.1", self.port)
-                break
-            assert time.monotonic() < end, (self.at / "told.txt").read_text()
-            time.sleep(0.1)
+                return True
+            return False
+
+        until(is_connected, self.told)
         client.loop_start()
         for message in messages:
             client.publish(topic, message, qos=quality).wait_for_publish(PATIENCE)

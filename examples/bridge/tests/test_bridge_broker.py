@@ -10,7 +10,7 @@ from typing import Any, Iterator
 
 import pytest
 from bridge_broker import Broker, RunByBroker, amqp, message
-from at_port import PATIENCE
+from at_port import until
 from bridge_lab import Room, start
 from station_site import certificate
 
@@ -59,10 +59,7 @@ def test_what_a_broker_refuses_is_reported(
     said = room.at / "said.txt"
     with open(said, "wb") as told:
         room.running = subprocess.Popen(room.command(*words), stderr=told, cwd=room.at)
-        end = time.monotonic() + PATIENCE
-        while why not in said.read_text():
-            assert time.monotonic() <= end, said.read_text()
-            time.sleep(0.05)
+        until(lambda: why in said.read_text(), said.read_text)
 
 
 def test_what_no_one_can_read_is_a_dead_letter(room: Room, broker: Broker) -> None:

@@ -8,11 +8,11 @@ import os
 import pathlib
 import subprocess
 import time
-from typing import Any, Callable
+from typing import Any
 
 import fronts
 import pytest
-from at_port import PATIENCE
+from at_port import until
 from bridge_lab import Room
 
 from tracedesk import tables
@@ -193,44 +193,21 @@ def test_a_file_that_grows_is_waited_for(room: Room) -> None:
     room.wait_for([f"B-{number}-C1" for number in range(1, 9)])
 
 
-COUNT = 12
-
-
-def killed_at_each(room: Room, words: list[Any], put: Callable[[int], object]) -> None:
-    """The bridge is killed once each record's message is there, and started again."""
+def test_a_bridge_killed_at_each_file_loses_and_doubles_none(room: Room) -> None:
+    """It is killed once each record's message is there, and started again."""
+    words, folder = by_csv(room)[2:], room.at / "out"
+    words += ["--folder", folder, "--follow"]
+    folder.mkdir()
     wanted: list[str] = []
-    for number in range(1, COUNT + 1):
-        put(number)
+    for number in range(1, 13):
+        put_file(folder, f"{number:03}.csv", f"{HEADING}\n{row(number)}\n")
         wanted.append(f"B-{number}-C1")
         room.running = subprocess.Popen(room.command(*words), stderr=subprocess.DEVNULL)
-        end = time.monotonic() + PATIENCE
-        while len(room.waiting()) < number:
-            assert time.monotonic() < end
+        until(lambda: len(room.waiting()) == len(wanted))
         room.end()
     room.running = subprocess.Popen(room.command(*words), stderr=subprocess.DEVNULL)
-    put(COUNT + 1)
-    room.wait_for([*wanted, f"B-{COUNT + 1}-C1"])
-
-
-def test_a_bridge_killed_at_each_row_loses_and_doubles_none(room: Room) -> None:
-    words = by_csv(room)
-    room.file.write_text(f"{HEADING}\n")
-
-    def put(number: int) -> None:
-        with open(room.file, "a") as file:
-            file.write(f"{row(number)}\n")
-
-    killed_at_each(room, [*words, room.file, "--follow"], put)
-
-
-def test_a_bridge_killed_at_each_file_loses_and_doubles_none(room: Room) -> None:
-    words, folder = by_csv(room)[2:], room.at / "out"
-    folder.mkdir()
-    killed_at_each(
-        room,
-        [*words, "--folder", folder, "--follow"],
-        lambda number: put_file(folder, f"{number:03}.csv", f"{HEADING}\n{row(number)}\n"),
-    )
+    put_file(folder, "013.csv", f"{HEADING}\n{row(13)}\n")
+    room.wait_for([*wanted, "B-13-C1"])
 
 
 def test_what_is_no_text_is_read_all_the_same() -> None:

@@ -7,11 +7,11 @@ import gzip
 import subprocess
 import time
 import types
-from typing import Any, Callable
+from typing import Any
 
 import brokers
 import pytest
-from at_port import PATIENCE, rows_in
+from at_port import rows_in, until
 from bridge_lab import Room, line_of, one_lane, said, start
 
 
@@ -135,13 +135,6 @@ def test_a_bridge_holds_a_lease_while_it_hears_the_machine(room: Room) -> None:
     until(lambda: lease(room) > before)
     stream.kill()
     stream.communicate()
-
-
-def until(call: Callable[[], bool]) -> None:
-    end = time.monotonic() + PATIENCE
-    while not call():
-        assert time.monotonic() < end
-        time.sleep(0.05)
 
 
 def test_what_passes_is_waited_out(room: Room) -> None:

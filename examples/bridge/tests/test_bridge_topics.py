@@ -7,7 +7,7 @@ import subprocess
 import time
 
 import pytest
-from at_port import PATIENCE, rows_in
+from at_port import rows_in, until
 from bridge_lab import Room, line_of, said, start
 from bridge_mosquitto import Mosquitto
 from station_site import certificate
@@ -20,10 +20,11 @@ def follow(room: Room, broker: Mosquitto) -> None:
     """Starts the bridge, and waits until the broker knows it."""
     words = room.command(*broker.words)
     room.running = subprocess.Popen(words, stderr=open(room.at / "said.txt", "ab"))
-    end = time.monotonic() + PATIENCE
-    while b"SUBSCRIBE" not in (broker.at / "told.txt").read_bytes():
-        assert time.monotonic() < end and room.running.poll() is None
-        time.sleep(0.05)
+    until(lambda: "SUBSCRIBE" in broker.told(), lambda: said_by(room))
+
+
+def said_by(room: Room) -> str:
+    return (room.at / "said.txt").read_text()
 
 
 def answer(room: Room) -> int:
@@ -50,10 +51,7 @@ def test_a_bridge_or_a_broker_killed_at_each_record_loses_and_doubles_none(room:
             name = f"u{number:02}"
             broker.send(TOPIC, start(name))
             wanted.append(name)
-            end = time.monotonic() + PATIENCE
-            while len(everything(room)) < number:
-                assert time.monotonic() < end, (room.at / "said.txt").read_text()
-                time.sleep(0.02)
+            until(lambda: len(everything(room)) == len(wanted), lambda: said_by(room))
             if number % 3 == 0:
                 answer(room)
             if number % 4 == 2:
@@ -64,10 +62,7 @@ def test_a_bridge_or_a_broker_killed_at_each_record_loses_and_doubles_none(room:
                 room.end()
                 follow(room, broker)
         broker.send(TOPIC, line_of(said("CFX.Heartbeat")), b"{", start("last"))
-        end = time.monotonic() + PATIENCE
-        while everything(room) != [*wanted, "last"]:
-            assert time.monotonic() < end, (everything(room), (room.at / "said.txt").read_text())
-            time.sleep(0.05)
+        until(lambda: everything(room) == [*wanted, "last"], lambda: said_by(room))
         assert room.dead() == [b"{\n"]
         answer(room)
         time.sleep(1)
@@ -88,12 +83,13 @@ def test_what_is_wrong_at_the_broker_is_reported(room: Room, more: list[str], wh
         broker.start()
         words = room.command(*broker.words)
         room.running = subprocess.Popen(words, stderr=open(room.at / "said.txt", "ab"))
-        end = time.monotonic() + PATIENCE
-        while why not in (room.at / "said.txt").read_text():
+
+        def is_reported() -> bool:
             if more:
                 broker.send(TOPIC, start("a"), quality=0)
-            assert time.monotonic() < end, (room.at / "said.txt").read_text()
-            time.sleep(0.2)
+            return why in said_by(room)
+
+        until(is_reported, lambda: said_by(room))
     finally:
         broker.kill()
 
@@ -116,15 +112,10 @@ def test_a_password_goes_over_tls_alone(room: Room) -> None:
             words += [str(room.at / f"{ca}.crt"), "--password-file", str(room.at / "password")]
             with open(room.at / "said.txt", "wb") as told:
                 room.running = subprocess.Popen(room.command(*words), stderr=told)
-            end = time.monotonic() + PATIENCE
-            text = room.at / "broker/told.txt"
-            while (
-                (why not in (room.at / "said.txt").read_text())
-                if why
-                else ("u'desk'" not in text.read_text())
-            ):
-                assert time.monotonic() < end, (room.at / "said.txt").read_text()
-                time.sleep(0.1)
+            until(
+                lambda: why in said_by(room) if why else "u'desk'" in broker.told(),
+                lambda: said_by(room),
+            )
             room.end()
     finally:
         broker.kill()
