@@ -84,7 +84,7 @@ class Source:
 
 
 def unpacked(message: Any) -> bytes:
-    """The bytes of a message of a broker, which may be packed. A body of another kind than texts and
+    """The bytes of a message of a broker, which may be packed. A body that is neither a text nor
     bytes is no record: who looks at it sees it as Python spells it.
     """
     body = message.body

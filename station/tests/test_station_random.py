@@ -1,4 +1,4 @@
-"""Random hands, while answers are lost: a few, or --sequences N, of which the first has --seed N."""
+"""Random hands, while answers are lost: a few, or --sequences N, the first with --seed N."""
 
 import pytest
 from station_random import BATCH, batch, words

@@ -1,5 +1,5 @@
-"""A sender with an interlock, as a process of its own, and what it is tried by: a machine, its line,
-and a plant's command that writes each call with its time.
+"""A sender with an interlock, as a process of its own, and what it is tried by: a machine, its
+line, and a plant's command that writes each call with its time.
 """
 from __future__ import annotations
 

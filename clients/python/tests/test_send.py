@@ -159,7 +159,8 @@ def test_validate_says_of_each_line_what_is_wrong_first() -> None:
     """A member that nobody reads passes, since a desk takes it too; it is named, with what may be
     meant.
     """
-    body = {"Machine": "M1", "Board": "B", "Designators": ["C1"], "MachineReels": ["K-1"]}
+    body: dict[str, Any] = {"Machine": "M1", "Board": "B", "Designators": ["C1"]}
+    body["MachineReels"] = ["K-1"]
     told = {**json.loads(line("u1", "MaterialsInstalled")), "MessageBody": body}
     few, twice = {"Machine": "M1", "Bord": "B"}, {**body, "MachineReels": ["K-1", "K-2"]}
     looked: list[tuple[dict[str, Any], str]] = [
