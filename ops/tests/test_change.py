@@ -2,6 +2,7 @@
 from __future__ import annotations
 
 import contextlib
+import os
 import pathlib
 import sqlite3
 import subprocess
@@ -23,6 +24,14 @@ file = open(sys.argv[1], "r+b")
 fcntl.lockf(file, fcntl.LOCK_EX, 512, 1 << 30)
 print("held", flush=True)
 sys.stdin.read()
+"""
+OPEN = """
+import fcntl, sys
+file = open(sys.argv[1], "r+b")
+try:
+    fcntl.lockf(file, fcntl.LOCK_EX | fcntl.LOCK_NB, 512, 1 << 30)
+except BlockingIOError:
+    sys.exit(3)
 """
 
 
@@ -195,6 +204,26 @@ def test_a_desk_that_runs_is_not_restored(folder: Path) -> None:
             change.restore(line, its, audit)
         run.communicate()
     assert uids(line.desk) == ["a", "b"] and not [*line.lost.iterdir()]
+
+
+@pytest.mark.parametrize("changed", [restored, lambda line, _: rolled_over(line)])
+def test_no_run_opens_a_desk_that_is_taken_off(
+    folder: Path, monkeypatch: pytest.MonkeyPatch, changed: Callable[..., object]
+) -> None:
+    """At the rename another process can't have the range that SQLite locks."""
+    line, statuses, replace = line_of(folder / "L1", "a"), [], os.replace
+    older = seal(line)
+    files.accept(line.desk, ["b"])
+
+    def renamed(path: Path, to: Path) -> None:
+        if to == line.desk:
+            run = subprocess.run([sys.executable, "-c", OPEN, str(line.desk)])
+            statuses.append(run.returncode)
+        replace(path, to)
+
+    monkeypatch.setattr(os, "replace", renamed)
+    changed(line, older)
+    assert statuses == [3]
 
 
 def test_a_file_that_the_audit_refuses_is_not_restored(folder: Path) -> None:

@@ -73,6 +73,16 @@ def test_desks_that_changed_places_are_named(folder: Path) -> None:
         assert any("1 commands of S are in" in fault for fault in around.survey(line).faults)
 
 
+def test_a_desk_that_was_set_back_is_named(folder: Path) -> None:
+    """As by a snapshot of its disk: the newest sealed file has a command that the desk lacks."""
+    line = line_of(folder / "L1", "a")
+    kept = shutil.copyfile(line.desk, folder / "snapshot")
+    newest = seal(line, "b")
+    shutil.copyfile(kept, line.desk)
+    (fault,) = survey(line).faults
+    assert "1 commands of S are in" in fault and newest.path.name in fault
+
+
 # --- The watch
 
 
