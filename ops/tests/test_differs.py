@@ -78,13 +78,6 @@ def test_a_decision_behind_a_roll_over_is_about_the_entry_before_it(plant: Plant
     assert boards(plant, "L-R-2") == []
 
 
-def test_a_moved_boundary_of_a_splice_is_doubtful(plant: Plant) -> None:
-    plant.on_slot(NOW, "MaterialsSpliced", Reel="R-2")
-    build(plant, "R-2")
-    its = ("B1", "C1", "R-1", "R-2", "the machine names another reel (entry 1 of running desk)")
-    assert [boards(plant, lot) for lot in ("L-R-1", "L-R-2")] == [[its]] * 2
-
-
 def test_a_reel_that_the_desk_does_not_know_is_said_so(plant: Plant) -> None:
     build(plant, "R-9")
     (row,) = table(plant.recall("L-R-1", 5, "doubtful"))

@@ -63,15 +63,6 @@ def test_no_unit_is_left_out(machine: Machine) -> None:
     assert tests == {name.removeprefix("test_") for name in globals() if name[5:] in tests}
 
 
-def test_no_unit_is_exposed(machine: Machine) -> None:
-    """systemd's own figure for each, as it is loaded."""
-    look = "systemd-analyze security --no-pager ${it/@./@L2.} | tail -n 1"
-    said = machine.shell(f"cd /lib/systemd/system; for it in tracedesk*.service; do {look}; done")
-    found = re.findall(r"exposure level for (\S+): ([0-9.]+)", said)
-    assert len(found) == len(list((ROOT / "packaging").glob("tracedesk*.service")))
-    assert not {unit: level for unit, level in found if float(level) > 2}
-
-
 def test_tracedesk(machine: Machine, journal: Callable[[str], None]) -> None:
     """A message, by the proxy."""
     assert machine.post("each-unit") == "200"

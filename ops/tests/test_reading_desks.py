@@ -1,13 +1,10 @@
 """Tools that read a desk's file: its log is read too, also of one that runs, and nothing is
 changed."""
-import contextlib
 import itertools
 import multiprocessing
 import pathlib
 import shutil
 import signal
-import sqlite3
-from typing import Iterator
 
 import pytest
 
@@ -17,7 +14,7 @@ from lab.line import Line, NewLine
 from lab.messages import FIRST_LINE
 from lab.tools import Ended, Word, run, run_changed, tool
 from tracedesk_dev import begun
-from tracedesk_ops import doubts, plant, sealed
+from tracedesk_ops import plant
 
 TARGET = "/slots?machine=M"
 SLOTS_HEADER = "slot,position,reel,part,lot,remaining,minutes_left\n"
@@ -84,21 +81,6 @@ def test_who_looks_whether_a_desk_is_open_is_in_no_runs_way(served: Desk) -> Non
             looker.join()
 
 
-TARGETS = [
-    ("/trace/lot?lot=L1&detail=4", 0),
-    *((f"/trace/lot?lot=L1&detail={detail}", 1) for detail in ("0", "5", "01", "")),
-    *((f"/kit?product=X&machine=M&boards={n}", 1) for n in ("0", "-1", "1_0", "100001")),
-]
-
-
-@pytest.mark.parametrize("target, status", TARGETS)
-def test_ask_refuses_what_the_program_refuses(desk: Desk, target: str, status: int) -> None:
-    desk.feed(FIRST_LINE)
-    own = run([desk.program, "report", "--db", desk.file, "--get", target]).expect(status)
-    done = ask(desk.file, target).expect(status)
-    assert status or done.out == own.out
-
-
 def test_names_in_another_locale(new_line: NewLine, folder: pathlib.Path) -> None:
     """A folder whose name is not ASCII, where Python takes all texts for ASCII."""
     env = {"LC_ALL": "C", "PYTHONUTF8": "0", "PYTHONCOERCECLOCALE": "0"}
@@ -124,27 +106,3 @@ def test_what_cannot_be_printed_is_told(line: Line) -> None:
         line.call(line.ops("seal")).expect()
         done = run(line.ops("restore", "--dry-run"), out=full)
     assert done.status == 3 and "standard output" in done.err and "Traceback" not in done.err
-
-
-def test_one_archive_is_open_at_a_time(
-    desk: Desk, folder: pathlib.Path, monkeypatch: pytest.MonkeyPatch
-) -> None:
-    """A line has hundreds of them, and a process may have few files open."""
-    desk.feed(FIRST_LINE)
-    archives = folder / "L1/sealed"
-    archives.mkdir(parents=True)
-    rows = []
-    for number in range(4):
-        rows.append(shutil.copy(desk.file, archives / f"L1-{number}"))
-    counts, opened = [0], sealed.opened
-
-    @contextlib.contextmanager
-    def counted(file: pathlib.Path) -> Iterator[sqlite3.Connection]:
-        with opened(file) as database:
-            counts.append(counts[-1] + 1)
-            yield database
-        counts.append(counts[-1] - 1)
-
-    monkeypatch.setattr(sealed, "opened", counted)
-    assert doubts.look(folder / "L1", rows).faults == []
-    assert max(counts) == 1 and len(counts) > 2 * len(rows)

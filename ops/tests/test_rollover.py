@@ -2,6 +2,7 @@
 one desk. That the new desk has the same reels is proved by tracedesk-chain alike, at each."""
 import contextlib
 import http.client
+import json
 import pathlib
 import time
 from typing import Any, Iterator
@@ -17,6 +18,7 @@ from lab.waits import PATIENCE
 from tracedesk_ops import catalogue, copies, rollover, sealed
 from tracedesk_ops.line import LineFolder
 
+CLOCK = {"MessageName": "TraceDesk.ClockSet", "MessageBody": {}}
 
 # --- Three roll-overs in a row
 
@@ -56,6 +58,9 @@ def test_nothing_acts_that_is_sent_again(thrice: Line, shifted: Shifted) -> None
         may_repeat = line in own or b"ClockSet" in line
         is_repeat = may_repeat and answer["Answer"] == "Accepted"
         assert is_repeat or answer.get("Refusal") == "IdReused", f"{line[:300]!r}: {answer}"
+    asked = [{**json.loads(line), **CLOCK} for line in lines if line not in own]
+    for answer in thrice.post(json.dumps(it).encode() for it in asked):
+        assert answer["Answer"] == "Accepted", "a ClockSet in its place says that it is there"
     assert thrice.lawful_now() == before
 
 

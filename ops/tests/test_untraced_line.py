@@ -123,20 +123,13 @@ def test_a_report_with_any_text_is_kept_recalled_and_verified(plant: Plant, name
     plant.recall("L-K-1", 0)
 
 
-@pytest.mark.parametrize("lot", ["L-OLD", "L-NEW"])
-def test_a_recall_names_boards_that_were_worked_untraced(expired: Plant, lot: str) -> None:
-    rows = expired.recall(lot, 3).split("\n", 1)[1]
-    assert all(name in rows for name in ("B1", "B2", "OLD"))
-
-
-def test_untraced_work_is_named_behind_a_roll_over_too(expired: Plant) -> None:
+def test_untraced_work_is_named_until_all_is_scrapped(expired: Plant) -> None:
+    """Behind a roll-over too, in a recall of each reel that was on the machine."""
+    for lot in ("L-OLD", "L-NEW"):
+        rows = expired.recall(lot, 3).split("\n", 1)[1]
+        assert all(name in rows for name in ("B1", "B2", "OLD"))
     expired.line.rollover().expect()
     assert len(expired.undecided()) == 4
-    expired.decide_all()
-    assert expired.recall("L-OLD", 0).count("A. Person") == 4
-
-
-def test_a_recall_is_whole_once_all_is_scrapped(expired: Plant) -> None:
     expired.decide_all()
     assert expired.recall("L-OLD", 0).count("A. Person") == 4
 
@@ -165,30 +158,6 @@ def test_no_other_decision_takes_a_board_out_of_a_recall(expired: Plant, became:
         expired.decide(row["n"], "scrapped")
     for lot in ("L-OLD", "L-NEW"):
         assert table(expired.recall(lot, 0, "doubtful")) == []
-
-
-def test_a_board_without_a_known_reel_is_in_each_recall(plant: Plant) -> None:
-    """Nothing was on the machine, and a report that nobody can read names none."""
-    plant.make_ready(("K-1", "P", "1", 100))
-    said = plant.message(LATER, "MaterialsInstalled", Machine="M1", Board="B1", Designators=["C1"])
-    plant.refused(said, said[:-2])
-    for row in plant.undecided():
-        plant.decide(row["n"], "used as it is")
-    boards = [row["board"] for row in table(plant.recall("L-K-1", 5, "doubtful"))]
-    assert sorted(boards) == ["", "B1"]
-
-
-def test_a_reel_that_was_refused_before_the_board_may_be_on_it(plant: Plant) -> None:
-    plant.make_ready(("K-1", "P", "1", 100), ("WRONG", "Q", "1", 100))
-    plant.on_slot(FIRST, "MaterialsLoaded", Reel="K-1")
-    plant.refused(
-        plant.message(LATER, "MaterialsSpliced", Machine="M1", Slot="1", Reel="WRONG"),
-        plant.message(LATER, "MaterialsInstalled", Machine="M1", Board="B1", Designators=["C1"]),
-    )
-    (row,) = plant.undecided()
-    plant.decide(row["n"], "used as it is")
-    for lot in ("L-K-1", "L-WRONG"):
-        assert "B1" in plant.recall(lot, 5, "doubtful")
 
 
 def test_a_refused_splice_makes_pieces_doubtful_until_it_is_decided(plant: Plant) -> None:
