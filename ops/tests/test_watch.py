@@ -12,7 +12,7 @@ import pytest
 from lab.programs import auditor
 from lab.tools import Word, run_tool
 from lab.waits import wait_for
-from lab.watched import AWAY, ODD, Metrics, Watched, expect, read, watched
+from lab.watched import AWAY, ODD, Watched, expect, read, watched
 from tracedesk_ops import sealing
 
 pytestmark = [pytest.mark.needs("nginx", "openssl"), pytest.mark.xdist_group("watch")]
@@ -77,33 +77,28 @@ def test_figures_of_the_book_are_those_of_the_line(its: Watched) -> None:
     shutil.rmtree(its.line.lost)
     for reel in ("K-8", "K-9"):
         its.site.say("MaterialsLoaded", {"Machine": "M1", "Slot": "1", "Reel": reel}, 0)
-    said = json.dumps({"Of": 1, "Became": "nothing", "By": "A", "Reason": "typed"})
-    path = "/line/decisions"
-    assert its.site.asked("POST", path, "office", said)[0] == 401
-    assert its.site.asked("POST", path, "op", said, Content_Type="text/csv")[0] == 415
-    assert its.site.asked("POST", path, "op", said, Origin="https://elsewhere.example")[0] == 403
-    assert its.site.asked("POST", path, "op", said)[::2] == (200, '{"Answer":"Decided","Entry":3}')
+    said = {"Of": 1, "Became": "nothing", "By": "A", "Reason": "typed"}
+    assert its.site.asked("POST", "/line/decisions", "op", json.dumps(said))[0] == 200
     for path in ("state?machine=M1", "book?after=0", "undecided", "counts"):
         assert its.site.asked("GET", f"/line/{path}")[0] == 401
         assert its.site.asked("GET", f"/line/{path}", "office")[0] == 200
     expect(its.metrics(), book_entries=3, book_open=1, book_undecided=0, watch_source_up__book=1)
 
 
-def test_sizes_are_those_of_the_files(its: Watched) -> None:
-    size, log = (its.room / name for name in ("desk", "desk-wal"))
-    pieces = size.stat().st_size // 120
-    expect(
-        its.metrics(),
-        file_bytes=size.stat().st_size,
-        log_bytes=log.stat().st_size,
-        pieces_estimate=pieces,
-        next_start_estimate_seconds=round(pieces * 19 / 1e6, 3),
-    )
-
-
-def test_times_are_those_of_the_run(its: Watched) -> None:
-    before = time.time()
+def test_other_figures_are_those_of_the_files_and_of_the_run(its: Watched) -> None:
+    """Nothing is said of what isn't there: sealed files, a clock and senders."""
+    size, before = (its.room / "desk").stat().st_size, time.time()
     found = its.metrics()
+    expect(
+        found,
+        file_bytes=size,
+        log_bytes=(its.room / "desk-wal").stat().st_size,
+        pieces_estimate=size // 120,
+        next_start_estimate_seconds=round(size // 120 * 19 / 1e6, 3),
+        **dict.fromkeys(("backup_timestamp_seconds", "backup_commands", "clock_commands")),
+        sender_waiting__m1=None,
+        **{f"watch_source_up__{name}": 1 for name in ("backup", "clock", "status")},
+    )
     assert before - 1 <= found["watch_timestamp_seconds"] <= time.time() + 1
     assert 0 < found["get_seconds"] < time.time() - before
 
@@ -119,16 +114,6 @@ def test_machines_are_those_of_the_set_up(its: Watched) -> None:
     assert slots == {r"least_slot_pieces{M \"3\" \\}": 33}
 
 
-def test_without_sealed_files_or_a_clock_nothing_is_told_of_them(its: Watched) -> None:
-    expect(
-        its.metrics(),
-        backup_timestamp_seconds=None,
-        backup_commands=None,
-        clock_commands=None,
-        watch_source_up__backup=1,
-    )
-
-
 def test_the_desks_file_is_not_opened(its: Watched) -> None:
     """Nobody could open a pipe in the place of the file or of its log."""
     (its.room / "pipes").mkdir()
@@ -141,40 +126,34 @@ def test_the_desks_file_is_not_opened(its: Watched) -> None:
 # --- What senders say of themselves
 
 
+STATUS: dict[str, Any] = {
+    "Aside": 2,
+    "At": AT,
+    "Machines": {"M1": {"State": "go"}, "M2": {"State": "stop"}},
+    "OldestWaiting": AT,
+    "Sender": "m1",
+    "Version": 1,
+    "Waiting": 3,
+}
+
+
 @pytest.fixture
 def status(its: Watched) -> Iterator[pathlib.Path]:
     """The status files of two senders."""
     folder = its.room / "status"
     folder.mkdir()
-    first: dict[str, Any] = {
-        "Aside": 2,
-        "At": AT,
-        "Machines": {"M1": {"State": "go"}, "M2": {"State": "stop"}},
-        "OldestWaiting": AT,
-        "Sender": "m1",
-        "Version": 1,
-        "Waiting": 3,
-    }
-    second = {**first, "Sender": "m2", "Machines": {}, "OldestWaiting": None, "Waiting": 0}
-    for name, told in (("m1", first), ("m2", second)):
-        (folder / f"{name}.json").write_text(json.dumps(told))
+    second = {**STATUS, "Sender": "m2", "Machines": {}, "OldestWaiting": None, "Waiting": 0}
+    for told in (STATUS, second):
+        (folder / f"{told['Sender']}.json").write_text(json.dumps(told))
     yield folder
     shutil.rmtree(folder)
-
-
-def of_senders(found: Metrics) -> Metrics:
-    names = ("sender_", "interlock_")
-    return {name: value for name, value in found.items() if name.startswith(names)}
-
-
-def test_without_senders_nothing_is_told_of_them(its: Watched) -> None:
-    expect(its.metrics(), watch_source_up__status=1, sender_waiting__m1=None)
 
 
 def test_senders_are_told(its: Watched, status: pathlib.Path) -> None:
     found, told = its.look()
     assert "watch: status: " not in told
-    assert of_senders(found) == {
+    of_senders = {it: found[it] for it in found if it.startswith(("sender_", "interlock_"))}
+    assert of_senders == {
         "sender_waiting{m1}": 3,
         "sender_waiting{m2}": 0,
         "sender_aside{m1}": 2,

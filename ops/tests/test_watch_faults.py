@@ -2,7 +2,6 @@
 import contextlib
 import os
 import pathlib
-import shutil
 import subprocess
 from typing import Iterator, Optional
 
@@ -114,9 +113,11 @@ def test_no_number_is_of_half_a_report_or_of_another_program(its: Watched, name:
 # --- Each source
 
 
-SOURCES = {
+SOURCES = {  # the file that one reads
     "clock": "clock.json",
     "reports": "etc/station/setup.json",
+    "status": "status/m1.json",
+    "backup": f"sealed/{'0' * 24}.desk",
 }
 
 
@@ -127,53 +128,34 @@ def test_a_source_that_is_spoilt_hides_no_other(its: Watched, name: str) -> None
         if not file.parent.exists():
             file.parent.mkdir()
             kept.callback(file.parent.rmdir)
-        if file.exists():
-            kept.callback(file.write_bytes, file.read_bytes())
+        kept.callback(file.write_bytes, file.read_bytes()) if file.exists() else None
         kept.callback(file.unlink)
         file.write_text('{"half":')
         found, told = its.look()
-    others = {*SOURCES, "backup", "service", "file"} - {name}
+    others = {*SOURCES, "book", "service", "file"} - {name}
     expect(found, **{f"watch_source_up__{other}": 1 for other in others}, up=1, overdue_pieces=2)
     expect(found, **{f"watch_source_up__{name}": 0})
     assert f"watch: {name}: " in told
 
 
-def test_a_sealed_file_that_is_spoilt_hides_no_other_source(its: Watched) -> None:
-    file = its.line.sealed / f"{'0' * 24}.desk"
-    file.parent.mkdir()
-    file.write_text('{"half":')
-    found = its.metrics()
-    shutil.rmtree(file.parent)
-    expect(found, watch_source_up__backup=0, overdue_pieces=2)
-    expect(found, watch_source_up__clock=1, watch_source_up__reports=1, up=1)
-
-
 @pytest.mark.parametrize(
-    ("text", "status"),
+    ("text", "status", "is_active", "is_up"),
     [
-        ("", 1),
-        ("LoadState=not-found\nActiveState=inactive\nNRestarts=0\n", 0),
-        ("LoadState=loaded\nActiveState=active\nNRestarts=\n", 0),
+        ("", 1, None, 0),
+        ("LoadState=not-found\nActiveState=inactive\nNRestarts=0\n", 0, None, 0),
+        ("LoadState=loaded\nActiveState=active\nNRestarts=\n", 0, 1, 0),
+        (WELL.replace("active", "failed"), 0, 0, 1),
     ],
-    ids=["fails", "no unit", "no number"],
+    ids=["fails", "no unit", "no number", "a service that failed"],
 )
-def test_a_systemctl_that_fails(its: Watched, text: str, status: int) -> None:
+def test_a_service_is_as_systemctl_says(
+    its: Watched, text: str, status: int, is_active: Optional[int], is_up: int
+) -> None:
     its.site.systemd_says(text, status)
     found = its.metrics()
     its.site.systemd_says()
-    expect(
-        found,
-        watch_source_up__service=0,
-        service_restarts_total=None,
-        watch_source_up__reports=1,
-    )
-
-
-def test_a_service_that_failed(its: Watched) -> None:
-    its.site.systemd_says(WELL.replace("active", "failed"))
-    found = its.metrics()
-    its.site.systemd_says()
-    expect(found, service_active=0, watch_source_up__service=1)
+    expect(found, service_active=is_active, watch_source_up__service=is_up)
+    expect(found, service_restarts_total=3 if is_up else None, watch_source_up__reports=1)
 
 
 def test_a_desks_file_that_is_not_there(its: Watched) -> None:
