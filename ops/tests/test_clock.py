@@ -67,7 +67,7 @@ def test_a_desk_that_is_down_is_given_up(its: Watched) -> None:
 
 
 def test_an_answer_that_cannot_be_kept_is_named(its: Watched) -> None:
-    its.clock(answer=its.room / "nowhere/answer").expect(1, "can't be kept")
+    its.clock(answer=its.room / "nowhere/answer").expect(1, "the desk accepted it, and ")
 
 
 @pytest.mark.parametrize(

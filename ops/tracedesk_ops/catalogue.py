@@ -10,7 +10,6 @@ import datetime
 import io
 import os
 import pathlib
-import re
 import sqlite3
 from collections.abc import Iterable, Iterator
 from typing import Any, NamedTuple
@@ -48,10 +47,13 @@ def spelled(minute: int) -> str:
 
 
 def minute_of(text: str) -> int:
-    """The minute of a time that is spelled so; a ValueError where it is not."""
-    if not re.fullmatch(r"\d{4}-\d\d-\d\dT\d\d:\d\d:00Z", text, re.ASCII):
-        raise ValueError(text)
-    return (datetime.datetime.fromisoformat(text[:-1]) - EPOCH) // datetime.timedelta(minutes=1)
+    """The minute of a time, in UTC if it names no offset; a ValueError if it is none."""
+    then = datetime.datetime.fromisoformat(text)
+    try:
+        utc = then.astimezone(datetime.timezone.utc).replace(tzinfo=None) if then.tzinfo else then
+    except OverflowError as fault:
+        raise ValueError(f"{text} is in a year that UTC doesn't have") from fault
+    return (utc - EPOCH) // datetime.timedelta(minutes=1)
 
 
 # --- The archives themselves

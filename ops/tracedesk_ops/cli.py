@@ -66,7 +66,7 @@ from tracedesk_ops.service import Service
 Path = pathlib.Path
 
 DONE, NO, NOT_NOW, SEE_TO_IT = 0, 1, 3, 4
-FAULTS = (*plant.FAULTS, Busy, NotALine, desk_tables.NotCarried)
+FAULTS = (*plant.FAULTS, KeyboardInterrupt, Busy, NotALine, desk_tables.NotCarried)
 
 
 def audit_of(asked: argparse.Namespace) -> sealing.Audit:

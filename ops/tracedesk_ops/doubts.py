@@ -17,6 +17,7 @@ from typing import NamedTuple
 
 from tracedesk import records
 from tracedesk_ops import catalogue, files, model, splices, untraced
+from tracedesk_ops.catalogue import minute_of
 from tracedesk_ops.firstlook import Question
 from tracedesk_ops.sealed import FilesFault
 from tracedesk_ops.tapes import LOADED, DoubtfulPiece, Refusal, Tapes, Work
@@ -177,7 +178,7 @@ def waiting(folder: pathlib.Path) -> Iterator[str]:
             told = json.loads(records.shallow(files.read_plain(file, LONGEST)))
             oldest = told.get("OldestWaiting")
             now = time.time() // 60  # or later, if this machine's clock was set back
-            if oldest and max(now, minute_said(told["At"])) - minute_said(oldest) > 1:
+            if oldest and max(now, minute_of(told["At"])) - minute_of(oldest) > 1:
                 yield (
                     f"{file}: {told['Waiting']} messages wait at {told['Sender']} since {oldest},"
                     " and the desk doesn't have them: ask again once they are sent"
@@ -189,10 +190,3 @@ def waiting(folder: pathlib.Path) -> Iterator[str]:
                 f"{file}: whether its sender holds messages can't be read: {fault!r}. Start that"
                 " sender, or take the file away if there is none"
             )
-
-
-def minute_said(text: str) -> int:
-    """The minute of a time; a ValueError if it is none."""
-    if (minute := untraced.minute_of(text)) is None:
-        raise ValueError(f"{text} is no time")
-    return minute

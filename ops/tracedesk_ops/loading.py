@@ -24,7 +24,7 @@ except ImportError:  # the help is printed without it
     ERRORS = ()
 
 # an interruption ends it
-FAULTS: tuple[type[Exception], ...] = (*plant.FAULTS[:-1], chains.NoAnswer, *ERRORS)
+FAULTS: tuple[type[Exception], ...] = (*plant.FAULTS, chains.NoAnswer, *ERRORS)
 CHUNK = 1 << 20
 BEGUN = "its load has not ended: wait for it, or call tracedesk-plant-load again"
 ANEW = " DELETE FROM plant.line WHERE name = '{}'; then load again"

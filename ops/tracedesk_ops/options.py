@@ -2,7 +2,6 @@
 from __future__ import annotations
 
 import argparse
-import datetime
 import os
 import pathlib
 import re
@@ -90,21 +89,13 @@ def line_name(text: str) -> str:
 
 
 def minute_of(text: str) -> int:
-    """The minute of a time in UTC; an offset is taken off."""
-    found = re.fullmatch(
-        r"(\d{4}-\d\d-\d\d)[T ](\d\d:\d\d)(?::\d\d(?:\.\d+)?)?(Z|[+-]\d\d:\d\d)?", text
-    )
+    """The minute of a time of day in UTC; an offset is taken off."""
     try:
-        if not found:
-            raise ValueError(text)
-        moment = datetime.datetime.fromisoformat(
-            f"{found[1]}T{found[2]}:00" + (found[3] or "Z").replace("Z", "+00:00")
+        minute = catalogue.minute_of(
+            text if re.match(r"\d{4}-\d\d-\d\d[T ]\d\d:\d\d", text) else ""
         )
     except ValueError:
-        raise argparse.ArgumentTypeError("a time is written as 2026-03-02T06:00:00Z")
-    minute = (moment - catalogue.EPOCH.replace(tzinfo=datetime.timezone.utc)) // datetime.timedelta(
-        minutes=1
-    )
+        raise argparse.ArgumentTypeError("a time is written as 2026-03-02T06:00:00Z") from None
     if minute < 0:
         raise argparse.ArgumentTypeError("a time is from 1970 on")
     return minute

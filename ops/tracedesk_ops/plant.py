@@ -44,7 +44,6 @@ FAULTS = (
     copies.InUse,
     OSError,
     sqlite3.Error,
-    KeyboardInterrupt,
 )
 
 
@@ -72,6 +71,22 @@ def write_out(text: str) -> None:
     except OSError as fault:
         os.dup2(os.open(os.devnull, os.O_WRONLY), sys.stdout.fileno())
         raise Fault(f"standard output: {fault.strerror}") from fault
+
+
+def replaced(to: str, text: str, option: str, said: str = "") -> int:
+    """Prints a text, or replaces the file by it that an option names; the tool's status."""
+    if to == "-":
+        write_out(text)
+        return 0
+    try:
+        files.put(pathlib.Path(to).absolute(), text, 0o644)
+        return 0
+    except OSError as fault:
+        tell(
+            f"{said}{to} was not written: {fault}. The one before it stays; make room, or name"
+            f" another by {option}"
+        )
+        return 1
 
 
 def reached(step: str) -> None:

@@ -9,7 +9,6 @@ which pieces they make doubtful (tapes.py).
 """
 from __future__ import annotations
 
-import datetime
 import json
 import sqlite3
 from collections.abc import Iterator
@@ -136,13 +135,11 @@ def contradicted_by(id_: str, entry: BookEntry, database: sqlite3.Connection) ->
 
 
 def minute_of(text: str) -> int | None:
-    """The minute of a time as a message has it, none where that can't be read."""
+    """The minute of a time as a message has it, none if that can't be read."""
     try:
-        then = datetime.datetime.fromisoformat(text)
-        utc = then.astimezone(datetime.timezone.utc).replace(tzinfo=None) if then.tzinfo else then
-    except (ValueError, OverflowError):  # the second of a year that UTC doesn't have
+        return catalogue.minute_of(text)
+    except ValueError:
         return None
-    return (utc - catalogue.EPOCH) // datetime.timedelta(minutes=1)
 
 
 # --- What an entry is

@@ -23,11 +23,10 @@ from __future__ import annotations
 import argparse
 import pathlib
 import subprocess
-import sys
 import time
 
 from tracedesk import Desk, GivenUp, NotTaken, answers
-from tracedesk_ops import catalogue, files, options, places, plant, reader_of, stored
+from tracedesk_ops import catalogue, options, places, plant, reader_of, stored
 
 URL = f"http://127.0.0.1:{places.PORT}"
 SYNCED = "timedatectl show --property=NTPSynchronized --value"
@@ -113,15 +112,4 @@ def main() -> int:
     if answer is None:
         return 1
     text = f"{answer.decode()}\n"
-    if asked.answer == "-":
-        sys.stdout.write(text)
-        return 0
-    try:
-        files.put(pathlib.Path(asked.answer).absolute(), text, 0o644)
-        return 0
-    except OSError as fault:
-        plant.tell(
-            f"the desk accepted it, and its answer can't be kept: {fault}. Make room, or name"
-            " another file by --answer"
-        )
-        return 1
+    return plant.replaced(asked.answer, text, "--answer", "the desk accepted it, and ")

@@ -38,13 +38,12 @@ import pathlib
 import shutil
 import ssl
 import subprocess
-import sys
 import time
 from collections.abc import Callable, Generator
 from typing import Any
 
 from tracedesk import Desk, NotTaken, NotThere, Refused
-from tracedesk_ops import files, metrics, model, options, places, plant
+from tracedesk_ops import metrics, model, options, places, plant
 from tracedesk_ops import reader_of, sealed_watch, stored
 
 TO = pathlib.Path("/run/tracedesk-watch/metrics")
@@ -53,7 +52,7 @@ CLOCK = pathlib.Path("/run/tracedesk-clock/desk.json")  # ops/tracedesk-clock wr
 HEALTH = "https://127.0.0.1/health"
 SECONDS_FOR_SYSTEMD, SECONDS_FOR_NGINX = 10, 15  # packaging/nginx.conf waits less for the desk
 FAULTS = (
-    *plant.FAULTS[:-1],
+    *plant.FAULTS,
     NotTaken,
     http.client.HTTPException,
     ValueError,
@@ -337,15 +336,4 @@ def words() -> argparse.Namespace:
 def main() -> int:
     asked = words()
     text = metrics.METRICS if asked.list else metrics.text_of(Watch(asked).whole())
-    if asked.list or asked.to == "-":
-        sys.stdout.write(text)
-        return 0
-    try:
-        files.put(pathlib.Path(asked.to).absolute(), text, 0o644)
-        return 0
-    except OSError as fault:
-        plant.tell(
-            f"{asked.to} was not written: {fault}. The one before it stays; make room, or name"
-            " another by --to"
-        )
-        return 1
+    return plant.replaced("-" if asked.list else asked.to, text, "--to")
