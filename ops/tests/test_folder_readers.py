@@ -79,7 +79,7 @@ def test_a_desk_that_was_set_back_is_named(folder: Path) -> None:
     kept = shutil.copyfile(line.desk, folder / "snapshot")
     newest = seal(line, "b")
     shutil.copyfile(kept, line.desk)
-    (fault,) = survey(line).faults
+    (fault,) = around.survey(line).faults
     assert "1 commands of S are in" in fault and newest.path.name in fault
 
 
